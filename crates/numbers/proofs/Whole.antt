@@ -1,0 +1,115 @@
+-- The bridge from ℤ to ℕ: `omega` does not read ℤ, so a whole number is seen as its two sides in ℕ.
+-- A linear identity is `ext _ _ (omega (arith, sum x y, ..))`, a range is a bound on the sides.
+use Prim.Native.Nat.{ℕ, zero, suc, _+_, _-_, _*_, _≤_, _<_, _^_}
+use native.Mathlib.Nat.{add-zero, zero-add}
+use native.Mathlib.Omega.{arith}
+use mathlib.Core.Path.{_≡_, refl, sym, ap, _∙_}
+use mathlib.Core.Bool.{Bool, true, false, cond}
+use lib.Dec.{leb, ltb, leb·suc-suc}
+use lib.IntN.{ℤ, pos, negsuc, negℤ, natAbs, subℕ, _+ℤ_, _-ℤ_, _*ℤ_}
+use lib.Signed.{mag, leZ, ltZ}
+use borrow.Author.Tests.{ltb-true, ltb-false, lt-ltb, le-ltb, le-leb, lt-leb}
+use mir.Syntax.{Width}
+use mir.Val.{SFits, hbits, toZ, ofZ}
+use mir.Facts.{toZ-ofZ}
+
+-- the side above 0, and the side below it
+abbrev pub plus : ℤ → ℕ
+plus (pos n) = n
+plus (negsuc n) = 0
+
+abbrev pub minus : ℤ → ℕ
+minus (pos n) = 0
+minus (negsuc n) = suc n
+
+-- two whole numbers are equal where their sides differ by the same
+pub ext : (x y : ℤ) → plus x + minus y ≡ plus y + minus x → x ≡ y
+ext (pos a) (pos b) h = ap pos (omega arith)
+ext (pos a) (negsuc b) h = absurd (omega arith)
+ext (negsuc a) (pos b) h = absurd (omega arith)
+ext (negsuc a) (negsuc b) h = ap negsuc (omega arith)
+
+-- what `omega` is told of z = x - y: the difference, and that no side is larger than what it comes from
+pub record Sides (z : ℤ) (x y : ℕ) : Type 0 where
+  pub eq : plus z + y ≡ minus z + x
+  pub up : plus z ≤ x
+  pub down : minus z ≤ y
+
+less : (a b : ℕ) → Sides (subℕ a b) a b
+less a b = go (ltb a b) refl
+  where
+    go : (t : Bool) → ltb a b ≡ t → Sides (cond t (negsuc (b - suc a)) (pos (a - b))) a b
+    go true e = let h : a < b = ltb-true a b e in omega arith
+    go false e = let h : b ≤ a = ltb-false a b e in omega arith
+
+pub sum : (x y : ℤ) → Sides (x +ℤ y) (plus x + plus y) (minus x + minus y)
+sum (pos a) (pos b) = omega arith
+sum (pos a) (negsuc b) = let s = less a (suc b) in omega arith
+sum (negsuc a) (pos b) = let s = less b (suc a) in omega arith
+sum (negsuc a) (negsuc b) = omega arith
+
+pub negated : (z : ℤ) → (plus (negℤ z) ≡ minus z) × (minus (negℤ z) ≡ plus z)
+negated (pos zero) = (refl, refl)
+negated (pos (suc n)) = (refl, refl)
+negated (negsuc n) = (refl, refl)
+
+pub difference : (x y : ℤ) → Sides (x -ℤ y) (plus x + minus y) (minus x + plus y)
+difference x y = omega (arith, sum x (negℤ y), negated y)
+
+-- a whole number times a natural one: each side is multiplied
+pub product : (z : ℤ) (v : ℕ) → (plus (z *ℤ pos v) ≡ plus z * v) × (minus (z *ℤ pos v) ≡ minus z * v)
+product (pos n) v = omega arith
+product (negsuc n) v = omega (arith, negated (pos (suc n * v)))
+
+-- the size, and the machine's measure of it
+pub size : (z : ℤ) → natAbs z ≡ plus z + minus z
+size (pos n) = omega arith
+size (negsuc n) = omega arith
+
+size-negated : (z : ℤ) → natAbs (negℤ z) ≡ natAbs z
+size-negated z = omega (arith, size z, size (negℤ z), negated z)
+
+-- the size of a product
+pub size-product : (x y : ℤ) → natAbs (x *ℤ y) ≡ natAbs x * natAbs y
+size-product (pos a) (pos b) = refl
+size-product (pos a) (negsuc b) = size-negated (pos (a * suc b))
+size-product (negsuc a) (pos b) = size-negated (pos (suc a * b))
+size-product (negsuc a) (negsuc b) = refl
+
+-- a whole number fits a signed width where its sides do
+pub sfits : (w : Width) (z : ℤ) → plus z < 2 ^ hbits w → minus z ≤ 2 ^ hbits w → SFits w z
+sfits w (pos n) up down = record { sfits = up }
+sfits w (negsuc n) up down = record { sfits = down }
+
+pub sfits-size : (w : Width) (z : ℤ) → natAbs z < 2 ^ hbits w → SFits w z
+sfits-size w z h = sfits w z (omega (arith, size z)) (omega (arith, size z))
+
+-- a signed number that is stored as bits is read back as itself
+pub read-back : (w : Width) (z : ℤ) → mag z < 2 ^ hbits w → toZ w (ofZ w z) ≡ z
+read-back w z h = toZ-ofZ (record { sfits = h })
+
+-- products spread over sums and differences
+pub sum-product : (x y : ℤ) (v : ℕ) → (x +ℤ y) *ℤ pos v ≡ x *ℤ pos v +ℤ y *ℤ pos v
+sum-product x y v =
+    ext _ _
+    (omega (
+      arith,
+      ap (λ (n : ℕ). n * v) (sum x y .eq),
+      sum (x *ℤ pos v) (y *ℤ pos v),
+      product x v,
+      product y v,
+      product (x +ℤ y) v,
+    ))
+
+-- the machine's tests of order, as tests on the sides
+pub leZ-sides : (x y : ℤ) → leZ x y ≡ leb (plus x + minus y) (plus y + minus x)
+leZ-sides (pos a) (pos b) = simp add-zero
+leZ-sides (pos a) (negsuc b) = sym (lt-leb (a + suc b) (0 + 0) (omega arith))
+leZ-sides (negsuc a) (pos b) = sym (le-leb (0 + 0) (b + suc a) (omega arith))
+leZ-sides (negsuc a) (negsuc b) = sym (simp zero-add (leb·suc-suc b a))
+
+pub ltZ-sides : (x y : ℤ) → ltZ x y ≡ ltb (plus x + minus y) (plus y + minus x)
+ltZ-sides (pos a) (pos b) = simp add-zero
+ltZ-sides (pos a) (negsuc b) = sym (le-ltb (a + suc b) (0 + 0) (omega arith))
+ltZ-sides (negsuc a) (pos b) = sym (lt-ltb (0 + 0) (b + suc a) (omega arith))
+ltZ-sides (negsuc a) (negsuc b) = sym (simp zero-add (leb·suc-suc (suc b) a))

@@ -1,0 +1,18 @@
+-- Byte strings of equal length: equality and the byte order, as tests.
+use Prim.Native.Nat.{ℕ}
+use mathlib.Core.Bool.{Bool, true, false, _&&_, _||_}
+use mathlib.Core.List.{List, [], _∷_}
+use lib.Dec.{ltb, eqb}
+
+-- the two strings are the same bytes
+unfoldable pub same : List ℕ → List ℕ → Bool
+same [] [] = true
+same [] (y ∷ ys) = false
+same (x ∷ xs) [] = false
+same (x ∷ xs) (y ∷ ys) = eqb x y && same xs ys
+
+-- the first string stands before the second: at the first byte where they differ, it has the lower one
+unfoldable pub before : List ℕ → List ℕ → Bool
+before [] ys = false
+before (x ∷ xs) [] = false
+before (x ∷ xs) (y ∷ ys) = ltb x y || eqb x y && before xs ys

@@ -1,0 +1,1 @@
+// No code: the general mathematics that the other crates cite. Definitions are in specs/, laws in proofs/.

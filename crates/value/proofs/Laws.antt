@@ -1,0 +1,44 @@
+-- Laws of the rounding and of V, for callers: they are used instead of the definitions' text.
+use Prim.Native.Nat.{ℕ, zero, suc, _+_, _-_, _*_, _/_, _%_, _≤_, _<_}
+use native.Mathlib.Nat.{div-zero, div-add-mod', div-eq-of-lt-le, div-mul-le-self, le-div-iff-mul-le, le-trans, mul-le-mul, mod-lt}
+use native.Mathlib.Omega.{arith}
+use lib.Dec.{lit<}
+use mathlib.Core.Path.{_≡_, refl, ap}
+use Rattle.rules.specs.Value.{rounded, value}
+
+-- by a quotient and a remainder: below half the divisor the quotient, else one more
+module _ (n d : ℕ) (h : 0 < d) where
+  pub rounded-down : n % d < d - n % d → rounded n d ≡ n / d
+  unfolding rounded
+  rounded-down low = div-eq-of-lt-le (2 * d) (omega (arith, div-add-mod' n d)) (omega (arith, div-add-mod' n d))
+
+  pub rounded-up : d - n % d ≤ n % d → rounded n d ≡ n / d + 1
+  unfolding rounded
+  rounded-up high = div-eq-of-lt-le (2 * d) (omega (arith, div-add-mod' n d)) (omega (arith, div-add-mod' n d, mod-lt n h))
+
+  -- a whole number goes to itself
+  pub rounded-whole : rounded (n * d) d ≡ n
+  unfolding rounded
+  rounded-whole = div-eq-of-lt-le (2 * d) (omega arith) (omega arith)
+
+pub rounded-none : (n : ℕ) → rounded n 0 ≡ 0
+unfolding rounded
+rounded-none n = div-zero (2 * n + 0)
+
+-- it never falls as its input rises
+pub rounded-rises : (d : ℕ) {m n : ℕ} → m ≤ n → rounded m d ≤ rounded n d
+unfolding rounded
+rounded-rises zero {m} {n} h = omega (arith, div-zero (2 * m + 0), div-zero (2 * n + 0))
+rounded-rises (suc d) {m} {n} h =
+    le-div-iff-mul-le {k = 2 * suc d} {x = (2 * m + suc d) / (2 * suc d)} {y = 2 * n + suc d} (omega arith) .1
+    (omega (arith, div-mul-le-self (2 * m + suc d) (2 * suc d)))
+
+-- K ≤ 10,000,000 and P ≤ 10,000,000 give V ≤ 1,000,000,000
+pub value-limit : {k p : ℕ} → k ≤ 10_000_000 → p ≤ 10_000_000 → value k p ≤ 1_000_000_000
+unfolding value
+value-limit {k} {p} hk hp =
+    omega (
+      arith,
+      rounded-rises 100_000 (mul-le-mul hp hk),
+      rounded-whole 1_000_000_000 100_000 (lit< tt),
+    )

@@ -1,0 +1,50 @@
+// The factor K, the value V of a price, and what lots are worth at it.
+ghost use mathlib.Core.Path.{_≡_};
+ghost use Prim.Native.Nat.{_≤_};
+ghost use lib.IntN.{natAbs};
+ghost use Rattle.rules.specs.Units;
+ghost use Rattle.rules.specs.Value;
+ghost use Rattle.rules.specs.Value.{valueOf};
+use rules::FACTOR_UNIT;
+use rules::Kopecks;
+use rules::Lots;
+
+pub mod signed;
+
+// The one rounding: n / d to a whole number, an exact half up.
+fn rounded(n: u64, d: u64) -> u64
+    ensures { λ r. ⌜ r ≡ Value.rounded n d ⌝ }
+{
+    if d == 0 {
+        return 0;
+    }
+    let whole = n / d;
+    let rest = n % d;
+    let gap = d - rest;
+    if rest < gap { whole } else { whole + 1 }
+}
+
+// K, in hundred-thousandths of a kopeck for a kopeck of price.
+pub fn factor(w: u32, r: u32) -> u64
+    ensures { λ k. ⌜ k ≡ Value.factor w r ⌝ }
+{
+    rounded(FACTOR_UNIT * (w as u64), r as u64)
+}
+
+// V, in kopecks for one lot.
+pub fn value(k: u32, price: u32) -> Kopecks
+    ensures { λ v. ⌜ v ≡ valueOf k price ⌝ }
+{
+    let v = rounded((price as u64) * (k as u64), FACTOR_UNIT);
+    Kopecks(v as i64)
+}
+
+// What lots are worth at a value for one lot.
+pub fn worth(lots: Lots, value: Kopecks) -> Kopecks
+    requires { ⌜ (natAbs (lots .0) ≤ 1_000_000) × (natAbs (value .0) ≤ 1_000_000_000) ⌝ }
+    ensures { λ r. ⌜ r ≡ Units.worth lots value ⌝ }
+{
+    let count = lots.0;
+    let each = value.0;
+    Kopecks(signed::product(count, each))
+}
