@@ -5,9 +5,9 @@ ghost use lib.IntN.{natAbs};
 ghost use Rattle.rules.specs.Units;
 ghost use Rattle.rules.specs.Value;
 ghost use Rattle.rules.specs.Value.{valueOf};
-use rules::FACTOR_UNIT;
-use rules::Kopecks;
-use rules::Lots;
+use rules::limits::FACTOR_UNIT;
+use rules::units::Kopecks;
+use rules::units::Lots;
 
 pub mod signed;
 

@@ -7,7 +7,7 @@ use mathlib.Core.Path.{ap, _∙_}
 use lib.IntN.{ℤ}
 use mir.Syntax.{w64}
 use mir.Facts.{toZ-pos}
-use Rattle.rules.specs.declared.Kopecks.{Kopecks}
+use Rattle.rules.specs.declared.units.Kopecks.{Kopecks}
 use Rattle.rules.specs.Value.{rounded, value, valueOf}
 use Rattle.value.proofs.Laws.{rounded-rises}
 use Rattle.value.proofs.value.Statement.{statement}
