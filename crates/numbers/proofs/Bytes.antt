@@ -1,14 +1,15 @@
 -- The byte order is a strict total order on strings of equal length, and `same` is their equality.
-use Prim.Native.Nat.{ℕ, zero, suc, _<_}
+use Prim.Native.Nat.{ℕ, zero, suc, _+_, _≤_, _<_}
 use native.Mathlib.Omega.{arith}
 use mathlib.Core.Path.{_≡_, refl, sym, ap, ap₂, _∙_}
 use mathlib.Core.Logic.{_⊎_, inl, inr, ⊎-elim}
 use mathlib.Core.Bool.{Bool, true, false, _&&_, _||_, true≢false, false≢true}
 use mathlib.Core.List.{List, [], _∷_}
 use lib.Dec.{ltb, eqb}
-use lib.ListN.{length}
-use borrow.Author.Tests.{ltb-true, ltb-false, eqb-true, lt-ltb, le-ltb, eq-eqb}
+use lib.ListN.{length, drop, drop-of-length-le}
+use borrow.Author.Tests.{ltb-true, ltb-false, eqb-true, lt-ltb, le-ltb, eq-eqb, ne-eqb}
 use Rattle.numbers.specs.Bytes.{same, before}
+use Rattle.numbers.proofs.Lists.{Has, from-here}
 use Rattle.numbers.proofs.Tests.{and-left, and-right, or-cases, or-left, or-right}
 
 pub same-eq : (xs ys : List ℕ) → same xs ys ≡ true → xs ≡ ys
@@ -67,3 +68,17 @@ before-total (x ∷ xs) (y ∷ ys) l p q =
     (before-total xs ys (omega arith)
     (rw (eq-eqb x y h) at (or-right (ltb x y) _ p))
     (rw (eq-eqb y x (sym h)) at (or-right (ltb y x) _ q)))
+
+-- one byte after the other, as a loop over two strings goes
+pub same-end : (xs ys : List ℕ) (i : ℕ) → length xs ≤ i → length ys ≤ i → same (drop i xs) (drop i ys) ≡ true
+unfolding same
+same-end xs ys i h k = rw (drop-of-length-le xs h, drop-of-length-le ys k)
+
+module _ {xs ys : List ℕ} {i x y : ℕ} (h : Has xs i x) (k : Has ys i y) where
+  pub same-next : x ≡ y → same (drop i xs) (drop i ys) ≡ same (drop (i + 1) xs) (drop (i + 1) ys)
+  unfolding same
+  same-next e = rw (from-here h, from-here k, eq-eqb x y e)
+
+  pub same-stop : (x ≡ y → ⊥) → same (drop i xs) (drop i ys) ≡ false
+  unfolding same
+  same-stop e = rw (from-here h, from-here k, ne-eqb x y e)

@@ -1,4 +1,5 @@
 pub mod Tests
+pub mod Lists
 pub mod Whole
 pub mod Sums
 pub mod Bytes

@@ -1,11 +1,17 @@
 -- Laws of sums over lists, stated once over what is summed.
-use Prim.Native.Nat.{ℕ, zero, suc, _+_, _<_}
-use native.Mathlib.Nat.{zero-add, add-assoc, add-comm, not-suc-le-zero, le-of-suc-le-suc}
+use Prim.Native.Nat.{ℕ, zero, suc, _+_, _*_, _≤_, _<_, _^_, zero-le}
+use native.Mathlib.Nat.{zero-add, add-assoc, add-comm, not-suc-le-zero, le-of-suc-le-suc, mul-le-mul-left}
+use native.Mathlib.Omega.{arith}
 use mathlib.Core.Path.{_≡_, refl, sym, ap, _∙_}
 use mathlib.Core.List.{List, [], _∷_, _++_, map}
-use lib.ListN.{length, getD, set}
-use lib.IntN.{ℤ, pos, _+ℤ_, +ℤ-idl, +ℤ-assoc, +ℤ-comm}
-use Rattle.numbers.specs.Sums.{gathered}
+use lib.ListN.{length, getD, set, drop, drop-of-length-le}
+use lib.IntN.{ℤ, pos, natAbs, _+ℤ_, +ℤ-idl, +ℤ-idr, +ℤ-assoc, +ℤ-comm}
+use mir.Syntax.{w64}
+use mir.Val.{SFits, toZ, ofZ}
+use mir.Facts.{toZ-ofZ}
+use Rattle.numbers.specs.Sums.{gathered, totalℤ}
+use Rattle.numbers.proofs.Lists.{Has, from-here}
+use Rattle.numbers.proofs.Whole.{sum, size, sfits-size}
 
 -- what a sum needs of its addition
 pub record Addition {A : Type 0} (join : A → A → A) (none : A) : Type 0 where
@@ -48,3 +54,32 @@ pub total-kept : {A B : Type 0} (join : A → A → A) (none : A) (join′ : B �
 unfolding gathered
 total-kept join none join′ none′ h e k [] = sym e
 total-kept join none join′ none′ h e k (x ∷ xs) = ap (join′ (h x)) (total-kept join none join′ none′ h e k xs) ∙ sym (k x (gathered join none xs))
+
+-- a loop's sum of a reading of the entries, held as bits: after i entries it makes up the whole with what is left, and is
+-- within i times a limit
+pub record Running {A : Type 0} (f : A → ℤ) (limit : ℕ) (xs : List A) (bits i : ℕ) : Type 0 where
+  pub whole : toZ w64 bits +ℤ totalℤ (map f (drop i xs)) ≡ totalℤ (map f xs)
+  pub within : natAbs (toZ w64 bits) ≤ limit * i
+
+pub running-none : {A : Type 0} (f : A → ℤ) (limit : ℕ) (xs : List A) → Running f limit xs 0 0
+running-none f limit xs = record { whole = +ℤ-idl _; within = zero-le }
+
+pub running-end : {A : Type 0} {f : A → ℤ} {limit : ℕ} {xs : List A} {bits i : ℕ} → Running f limit xs bits i → length xs ≤ i → toZ w64 bits ≡ totalℤ (map f xs)
+unfolding gathered
+running-end {xs = xs} {bits = bits} run past = sym (+ℤ-idr (toZ w64 bits)) ∙ rw (drop-of-length-le xs past) at (run .whole)
+
+-- one entry more, within the limit
+module _ {A : Type 0} {f : A → ℤ} {limit : ℕ} {xs : List A} {bits i : ℕ} {a : A} (run : Running f limit xs bits i) (here : Has xs i a) (small : natAbs (f a) ≤ limit) where
+  added-within : natAbs (toZ w64 bits +ℤ f a) ≤ limit * (i + 1)
+  added-within = omega (arith, sum (toZ w64 bits) (f a), size (toZ w64 bits), size (f a), size (toZ w64 bits +ℤ f a), run .within)
+
+  pub running-fits : (most : ℕ) → i < most → limit * most < 2 ^ 63 → SFits w64 (toZ w64 bits +ℤ f a)
+  running-fits most h fits = sfits-size w64 _ (omega (arith, added-within, mul-le-mul-left limit h))
+
+  pub running-next : (z : ℤ) → z ≡ toZ w64 bits +ℤ f a → SFits w64 z → Running f limit xs (ofZ w64 z) (i + 1)
+  unfolding gathered
+  running-next z e fits =
+      record {
+        whole = ap (λ (y : ℤ). y +ℤ totalℤ (map f (drop (i + 1) xs))) (toZ-ofZ fits ∙ e) ∙ +ℤ-assoc (toZ w64 bits) (f a) (totalℤ (map f (drop (i + 1) xs))) ∙ rw (from-here here) at (run .whole);
+        within = rw (toZ-ofZ fits ∙ e) added-within;
+      }

@@ -1,7 +1,10 @@
 -- Tests, as Bools: what a joint test says of its parts, and the other way round.
-use mathlib.Core.Path.{_≡_, refl}
+use mathlib.Core.Path.{_≡_, refl, sym, _∙_}
 use mathlib.Core.Logic.{_⊎_, inl, inr}
-use mathlib.Core.Bool.{Bool, true, false, _&&_, _||_, true≢false, false≢true}
+use mathlib.Core.Bool.{Bool, true, false, not, _&&_, _||_, true≢false, false≢true}
+use Prim.Native.Nat.{ℕ}
+use lib.Dec.{leb, ltb}
+use borrow.Author.Tests.{not-true, not-false, ltb-true, ltb-false, lt-leb, le-leb}
 
 pub and-left : (a b : Bool) → (a && b) ≡ true → a ≡ true
 and-left true b e = refl
@@ -22,3 +25,31 @@ or-left false b e = refl
 pub or-right : (a b : Bool) → (a || b) ≡ false → b ≡ false
 or-right true b e = absurd (true≢false e)
 or-right false b e = e
+
+-- what a branch `if !t` says of the test s that t computes
+pub failed : {t s : Bool} → t ≡ s → not t ≡ true → s ≡ false
+failed {t} e h = sym e ∙ not-true t h
+
+pub passed : {t s : Bool} → t ≡ s → not t ≡ false → s ≡ true
+passed {t} e h = sym e ∙ not-false t h
+
+pub both : (a b : Bool) → (a && b) ≡ true → (a ≡ true) × (b ≡ true)
+both a b e = (and-left a b e, and-right a b e)
+
+pub together : {a b : Bool} → a ≡ true → b ≡ true → (a && b) ≡ true
+together p q = simp (p, q)
+
+pub fails-left : (a b : Bool) → a ≡ false → (a && b) ≡ false
+fails-left a b e = simp e
+
+pub fails-right : (a b : Bool) → b ≡ false → (a && b) ≡ false
+fails-right true b e = e
+fails-right false b e = refl
+
+-- one order of two numbers, tested the other way round
+pub leb-ltb : (a b : ℕ) → leb a b ≡ not (ltb b a)
+leb-ltb a b = go (ltb b a) refl
+  where
+    go : (t : Bool) → ltb b a ≡ t → leb a b ≡ not t
+    go true e = lt-leb a b (ltb-true b a e)
+    go false e = le-leb a b (ltb-false b a e)

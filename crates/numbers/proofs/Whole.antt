@@ -4,12 +4,13 @@ use Prim.Native.Nat.{ℕ, zero, suc, _+_, _-_, _*_, _≤_, _<_, _^_}
 use native.Mathlib.Nat.{add-zero, zero-add}
 use native.Mathlib.Omega.{arith}
 use mathlib.Core.Path.{_≡_, refl, sym, ap, _∙_}
-use mathlib.Core.Bool.{Bool, true, false, cond}
+use mathlib.Core.Bool.{Bool, true, false, not, cond, true≢false}
+use Rattle.numbers.proofs.Tests.{leb-ltb}
 use lib.Dec.{leb, ltb, leb·suc-suc}
 use lib.IntN.{ℤ, pos, negsuc, negℤ, natAbs, subℕ, _+ℤ_, _-ℤ_, _*ℤ_}
 use lib.Signed.{mag, leZ, ltZ}
-use borrow.Author.Tests.{ltb-true, ltb-false, lt-ltb, le-ltb, le-leb, lt-leb}
-use mir.Syntax.{Width}
+use borrow.Author.Tests.{ltb-true, ltb-false, leb-true, lt-ltb, le-ltb, le-leb, lt-leb}
+use mir.Syntax.{Width, w64}
 use mir.Val.{SFits, hbits, toZ, ofZ}
 use mir.Facts.{toZ-ofZ}
 
@@ -113,3 +114,23 @@ ltZ-sides (pos a) (pos b) = simp add-zero
 ltZ-sides (pos a) (negsuc b) = sym (le-ltb (a + suc b) (0 + 0) (omega arith))
 ltZ-sides (negsuc a) (pos b) = sym (lt-ltb (0 + 0) (b + suc a) (omega arith))
 ltZ-sides (negsuc a) (negsuc b) = sym (simp zero-add (leb·suc-suc (suc b) a))
+
+-- which case of ℤ a number is, by the machine's test against 0
+pub negative : (z : ℤ) → ltZ z (pos 0) ≡ true → (n : ℕ) × (z ≡ negsuc n)
+negative (pos a) e = absurd (omega (arith, ltb-true a 0 e))
+negative (negsuc n) e = (n, refl)
+
+pub positive : (z : ℤ) → ltZ z (pos 0) ≡ false → (n : ℕ) × (z ≡ pos n)
+positive (pos n) e = (n, refl)
+positive (negsuc n) e = absurd (true≢false e)
+
+-- so a test of what is read is a test of what was stored
+pub read-as : {A : Type 0} (f : ℤ → A) (z : ℤ) → mag z < 2 ^ 63 → f (toZ w64 (ofZ w64 z)) ≡ f z
+read-as f z h = ap f (read-back w64 z h)
+
+-- within 0 is 0
+pub within-zero : (z : ℤ) → leb (natAbs z) 0 ≡ true → z ≡ pos 0
+within-zero z e = ext _ _ (omega (arith, size z, leb-true (natAbs z) 0 e))
+
+pub leZ-ltZ : (x y : ℤ) → leZ x y ≡ not (ltZ y x)
+leZ-ltZ x y = leZ-sides x y ∙ leb-ltb (plus x + minus y) (plus y + minus x) ∙ ap not (sym (ltZ-sides y x))

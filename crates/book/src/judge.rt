@@ -1,0 +1,46 @@
+// Whether a book keeps its rules. Each function computes the part of the definition `good` that its contract names.
+ghost use mathlib.Core.Path.{_≡_};
+ghost use Rattle.rules.specs.Book as Rules;
+ghost use Rattle.rules.specs.Book.{tailsBlank};
+use rules::book::Book;
+use rules::limits::TRADES_MOST;
+
+pub mod codes;
+pub mod notices;
+pub mod sections;
+pub mod terms;
+
+fn tails_blank(b: Book) -> bool
+    ensures { λ r. ⌜ r ≡ tailsBlank b ⌝ }
+{
+    if !sections::sections_blank(b) {
+        return false;
+    }
+    notices::notices_blank(b)
+}
+
+// Whether the book keeps all its rules.
+pub fn good(b: Book) -> bool
+    ensures { λ r. ⌜ r ≡ Rules.good b ⌝ }
+{
+    if !terms::terms_good(b) {
+        return false;
+    }
+    if !terms::places_good(b) {
+        return false;
+    }
+    let last = b.last;
+    if !terms::last_good(last, b.price) {
+        return false;
+    }
+    if TRADES_MOST < b.trades {
+        return false;
+    }
+    if !sections::sections_good(b) {
+        return false;
+    }
+    if !notices::notices_good(b) {
+        return false;
+    }
+    tails_blank(b)
+}

@@ -1,0 +1,47 @@
+// Section codes.
+ghost use mathlib.Core.Path.{_≡_};
+ghost use Rattle.numbers.specs.Bytes.{same};
+ghost use Rattle.rules.specs.Book.{byteGood, codeGood};
+
+fn byte_good(byte: u8) -> bool
+    ensures { λ r. ⌜ r ≡ byteGood byte ⌝ }
+{
+    if byte < 48 {
+        return false;
+    }
+    if byte <= 57 {
+        return true;
+    }
+    if byte < 65 {
+        return false;
+    }
+    byte <= 90
+}
+
+// Whether a section code has seven bytes, as its type says, and each of them is allowed.
+pub fn code_good(code: [u8; 7]) -> bool
+    ensures { λ r. ⌜ r ≡ codeGood code ⌝ }
+{
+    let mut i = 0;
+    while i < 7 {
+        if !byte_good(code[i]) {
+            return false;
+        }
+        i += 1;
+    }
+    true
+}
+
+// Whether two section codes are the same seven bytes.
+pub fn same_code(a: [u8; 7], b: [u8; 7]) -> bool
+    ensures { λ r. ⌜ r ≡ same a b ⌝ }
+{
+    let mut i = 0;
+    while i < 7 {
+        if a[i] != b[i] {
+            return false;
+        }
+        i += 1;
+    }
+    true
+}

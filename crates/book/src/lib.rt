@@ -1,0 +1,2 @@
+// The book: judged, and changed by every call but expiry.
+pub mod judge;

@@ -1,0 +1,82 @@
+-- Tests over the entries of a list, one entry after the other, as a loop over the list goes: what a test says of
+-- `drop i xs` and of `drop (i + 1) xs`, where x is entry i.
+use Prim.Native.Nat.{ℕ, zero, suc, _+_, _≤_, _<_}
+use native.Mathlib.Nat.{not-suc-le-zero, le-of-suc-le-suc}
+use native.Mathlib.Numerals.{add-one}
+use mathlib.Core.Path.{_≡_, refl, sym, ap, _∙_}
+use mathlib.Core.Bool.{Bool, true, false, not}
+use mathlib.Core.List.{List, [], _∷_, map}
+use lib.ListN.{length, getD, take, drop, drop-of-length-le, length-map}
+use lib.Seq.{drop-cons, length-take-le, getD-take}
+use Rattle.numbers.specs.Lists.{every, some, apart}
+use Rattle.numbers.proofs.Tests.{and-left, and-right}
+
+-- xs has x at place i
+pub record Has {A : Type 0} (xs : List A) (i : ℕ) (x : A) : Type 0 where
+  pub below : i < length xs
+  pub other : A
+  pub entry : getD xs i other ≡ x
+
+pub has : {A : Type 0} (xs : List A) (i : ℕ) (d : A) → i < length xs → Has xs i (getD xs i d)
+has xs i d h = record { below = h; other = d; entry = refl }
+
+-- so have its first n entries
+pub has-take : {A : Type 0} (n : ℕ) (xs : List A) (i : ℕ) (d : A) → i < n → n ≤ length xs → Has (take n xs) i (getD xs i d)
+has-take n xs i d h k = record { below = rw (length-take-le n xs k) h; other = d; entry = getD-take n xs i d h }
+
+module _ {A : Type 0} {xs : List A} {i : ℕ} {x : A} (here : Has xs i x) where
+  -- the entries from i on: entry i, and those from i + 1 on
+  pub from-here : drop i xs ≡ x ∷ drop (i + 1) xs
+  from-here = rw (add-one, drop-cons xs i (here .other) (here .below), here .entry)
+
+  pub every-next : (p : A → Bool) → p x ≡ true → every p (drop i xs) ≡ every p (drop (i + 1) xs)
+  unfolding every
+  every-next p e = rw (from-here, e)
+
+  pub every-stop : (p : A → Bool) → p x ≡ false → every p (drop i xs) ≡ false
+  unfolding every
+  every-stop p e = rw (from-here, e)
+
+  pub some-next : (p : A → Bool) → p x ≡ false → some p (drop i xs) ≡ some p (drop (i + 1) xs)
+  unfolding some
+  some-next p e = rw (from-here, e)
+
+  pub some-stop : (p : A → Bool) → p x ≡ true → some p (drop i xs) ≡ true
+  unfolding some
+  some-stop p e = rw (from-here, e)
+
+  pub apart-next : (alike : A → A → Bool) → some (alike x) (drop (i + 1) xs) ≡ false → apart alike (drop i xs) ≡ apart alike (drop (i + 1) xs)
+  unfolding apart
+  apart-next alike e = rw (from-here, e)
+
+  pub apart-stop : (alike : A → A → Bool) → some (alike x) (drop (i + 1) xs) ≡ true → apart alike (drop i xs) ≡ false
+  unfolding apart
+  apart-stop alike e = rw (from-here, e)
+
+-- past the last entry
+module _ {A : Type 0} (xs : List A) (i : ℕ) (past : length xs ≤ i) where
+  pub every-end : (p : A → Bool) → every p (drop i xs) ≡ true
+  unfolding every
+  every-end p = rw (drop-of-length-le xs past)
+
+  pub some-end : (p : A → Bool) → some p (drop i xs) ≡ false
+  unfolding some
+  some-end p = rw (drop-of-length-le xs past)
+
+  pub apart-end : (alike : A → A → Bool) → apart alike (drop i xs) ≡ true
+  unfolding apart
+  apart-end alike = rw (drop-of-length-le xs past)
+
+-- a list is as long as what it is mapped to; an array of structs that a function owns says its length so
+pub length-mapped : (A B : Type 0) (f : A → B) (xs : List A) (n : ℕ) → length (map f xs) ≡ n → length xs ≡ n
+length-mapped A B f xs n e = sym (length-map xs f) ∙ e
+
+-- what a test of every entry says of one of them
+pub every-at : {A : Type 0} (p : A → Bool) (xs : List A) (i : ℕ) (d : A) → every p xs ≡ true → i < length xs → p (getD xs i d) ≡ true
+unfolding every
+every-at p [] i d e h = absurd (not-suc-le-zero h)
+every-at p (x ∷ xs) zero d e h = and-left (p x) (every p xs) e
+every-at p (x ∷ xs) (suc i) d e h = every-at p xs i d (and-right (p x) (every p xs) e) (le-of-suc-le-suc h)
+
+pub every-has : {A : Type 0} (p : A → Bool) {xs : List A} {i : ℕ} {x : A} → Has xs i x → every p xs ≡ true → p x ≡ true
+every-has p {xs} {i} here e = rw (here .entry) at (every-at p xs i (here .other) e (here .below))
