@@ -23,12 +23,12 @@ pub record Between (low high n : ℕ) : Type 0 where
   pub least : low ≤ n
   pub most : n ≤ high
 
-between-facts : (low high n : ℕ) → between low high n ≡ true → Between low high n
+pub between-facts : (low high n : ℕ) → between low high n ≡ true → Between low high n
 between-facts low high n e =
     let parts = both (leb low n) (leb n high) e in
     record { least = leb-true low n (parts .0); most = leb-true n high (parts .1) }
 
-between-test : {low high n : ℕ} → Between low high n → between low high n ≡ true
+pub between-test : {low high n : ℕ} → Between low high n → between low high n ≡ true
 between-test h = together (le-leb _ _ (h .least)) (le-leb _ _ (h .most))
 
 -- a section held

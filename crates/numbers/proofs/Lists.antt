@@ -1,13 +1,14 @@
 -- Tests over the entries of a list, one entry after the other, as a loop over the list goes: what a test says of
 -- `drop i xs` and of `drop (i + 1) xs`, where x is entry i.
 use Prim.Native.Nat.{ℕ, zero, suc, _+_, _≤_, _<_}
-use native.Mathlib.Nat.{not-suc-le-zero, le-of-suc-le-suc}
+use native.Mathlib.Nat.{not-suc-le-zero, le-of-suc-le-suc, le-of-lt}
 use native.Mathlib.Numerals.{add-one}
+use native.Mathlib.Omega.{arith}
 use mathlib.Core.Path.{_≡_, refl, sym, ap, _∙_}
 use mathlib.Core.Bool.{Bool, true, false, not}
-use mathlib.Core.List.{List, [], _∷_, map}
-use lib.ListN.{length, getD, take, drop, drop-of-length-le, length-map}
-use lib.Seq.{drop-cons, length-take-le, getD-take}
+use mathlib.Core.List.{List, [], _∷_, _++_, map, map-append, append-assoc}
+use lib.ListN.{length, getD, set, take, drop, drop-of-length-le, length-map, length-append, length-drop}
+use lib.Seq.{drop-cons, take-suc, set-at, length-take-le, getD-take}
 use Rattle.numbers.specs.Lists.{every, some, apart}
 use Rattle.numbers.proofs.Tests.{and-left, and-right}
 
@@ -80,3 +81,16 @@ every-at p (x ∷ xs) (suc i) d e h = every-at p xs i d (and-right (p x) (every 
 
 pub every-has : {A : Type 0} (p : A → Bool) {xs : List A} {i : ℕ} {x : A} → Has xs i x → every p xs ≡ true → p x ≡ true
 every-has p {xs} {i} here e = rw (here .entry) at (every-at p xs i (here .other) e (here .below))
+
+-- a loop that writes f of the entries of xs over the entries of ys: after i turns, and one more
+pub written-next : {A B : Type 0} (f : A → B) {xs : List A} {i : ℕ} {x : A} (ys : List B) → Has xs i x → i < length ys → set (map f (take i xs) ++ drop i ys) i (f x) ≡ map f (take (i + 1) xs) ++ drop (i + 1) ys
+written-next f {xs} {i} {x} ys here h =
+    let front : length (map f (take i xs)) ≡ i = length-map (take i xs) f ∙ length-take-le i xs (le-of-lt (here .below)) in
+    let one : take (suc i) xs ≡ take i xs ++ (x ∷ []) = take-suc xs i (here .other) (here .below) ∙ ap (λ (y : _). take i xs ++ (y ∷ [])) (here .entry) in
+    ap (λ (zs : _). set (map f (take i xs) ++ zs) i (f x)) (drop-cons ys i (getD ys i (f x)) h)
+    ∙ set-at (map f (take i xs)) _ (drop (suc i) ys) (f x) i front
+    ∙ rw (add-one, one, map-append, append-assoc)
+
+pub written-length : {A B : Type 0} (f : A → B) (xs : List A) (ys : List B) (i : ℕ) → i ≤ length xs → i ≤ length ys → length (map f (take i xs) ++ drop i ys) ≡ length ys
+written-length f xs ys i h k =
+    simp (length-append, length-map, length-drop, length-take-le) (omega arith)

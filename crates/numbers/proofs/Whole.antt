@@ -1,7 +1,7 @@
 -- The bridge from ℤ to ℕ: `omega` does not read ℤ, so a whole number is seen as its two sides in ℕ.
 -- A linear identity is `ext _ _ (omega (arith, sum x y, ..))`, a range is a bound on the sides.
 use Prim.Native.Nat.{ℕ, zero, suc, _+_, _-_, _*_, _≤_, _<_, _^_}
-use native.Mathlib.Nat.{add-zero, zero-add}
+use native.Mathlib.Nat.{add-zero, zero-add, mul-le-mul}
 use native.Mathlib.Omega.{arith}
 use mathlib.Core.Path.{_≡_, refl, sym, ap, _∙_}
 use mathlib.Core.Bool.{Bool, true, false, not, cond, true≢false}
@@ -134,3 +134,14 @@ within-zero z e = ext _ _ (omega (arith, size z, leb-true (natAbs z) 0 e))
 
 pub leZ-ltZ : (x y : ℤ) → leZ x y ≡ not (ltZ y x)
 leZ-ltZ x y = leZ-sides x y ∙ leb-ltb (plus x + minus y) (plus y + minus x) ∙ ap not (sym (ltZ-sides y x))
+
+-- sums and differences of numbers within limits
+module _ (x y : ℤ) {a b : ℕ} (h : natAbs x ≤ a) (k : natAbs y ≤ b) where
+  pub sum-within : natAbs (x +ℤ y) ≤ a + b
+  sum-within = omega (arith, sum x y, size x, size y, size (x +ℤ y), h, k)
+
+  pub difference-within : natAbs (x -ℤ y) ≤ a + b
+  difference-within = omega (arith, difference x y, size x, size y, size (x -ℤ y), h, k)
+
+  pub product-within : natAbs (x *ℤ y) ≤ a * b
+  product-within = rw (size-product x y) (mul-le-mul h k)

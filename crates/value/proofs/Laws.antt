@@ -4,7 +4,12 @@ use native.Mathlib.Nat.{div-zero, div-add-mod', div-eq-of-lt-le, div-mul-le-self
 use native.Mathlib.Omega.{arith}
 use lib.Dec.{lit<}
 use mathlib.Core.Path.{_≡_, refl, ap}
-use Rattle.rules.specs.Value.{rounded, value}
+use lib.IntN.{natAbs}
+use Rattle.numbers.proofs.Whole.{product-within}
+use Rattle.rules.specs.declared.units.Kopecks.{Kopecks}
+use Rattle.rules.specs.declared.units.Lots.{Lots}
+use Rattle.rules.specs.Units.{worth}
+use Rattle.rules.specs.Value.{rounded, value, valueOf}
 
 -- by a quotient and a remainder: below half the divisor the quotient, else one more
 module _ (n d : ℕ) (h : 0 < d) where
@@ -42,3 +47,13 @@ value-limit {k} {p} hk hp =
       rounded-rises 100_000 (mul-le-mul hp hk),
       rounded-whole 1_000_000_000 100_000 (lit< tt),
     )
+
+-- what lots within a limit are worth at a value within a limit
+pub worth-within : (lots : Lots) (v : Kopecks) {a b : ℕ} → natAbs (lots .0) ≤ a → natAbs (v .0) ≤ b → natAbs (worth lots v .0) ≤ a * b
+unfolding worth
+worth-within lots v h k = product-within (lots .0) (v .0) h k
+
+-- V(P) is a natural number of kopecks
+pub value-within : {k p : ℕ} → k ≤ 10_000_000 → p ≤ 10_000_000 → natAbs (valueOf k p .0) ≤ 1_000_000_000
+unfolding valueOf
+value-within hk hp = value-limit hk hp
