@@ -1,0 +1,53 @@
+// Setting a section's condition mark.
+ghost use mathlib.Core.Path.{_≡_};
+ghost use mathlib.Core.Bool.{true};
+ghost use Rattle.rules.specs.Book.{good};
+ghost use Rattle.rules.specs.Calls.Condition as Rules;
+use rules::book::Answer;
+use rules::book::Book;
+use rules::limits::ACCEPTED;
+use rules::limits::BAD_BOOK;
+use rules::limits::EXPIRED;
+use rules::limits::UNKNOWN_SECTION;
+
+pub fn refusal(b: Book, section: u8) -> u8
+    requires { ⌜ good b ≡ true ⌝ }
+    ensures { λ n. ⌜ n ≡ Rules.conditionNumber b section ⌝ }
+{
+    if b.expired {
+        return EXPIRED;
+    }
+    if b.held <= (section as usize) {
+        return UNKNOWN_SECTION;
+    }
+    ACCEPTED
+}
+
+pub fn marked(b: Book, section: u8, met: bool) -> Book
+    requires { ⌜ Rules.conditionNumber b section ≡ 0 ⌝ }
+    ensures { λ r. ⌜ r ≡ Rules.afterCondition b section met ⌝ }
+{
+    let at = section as usize;
+    let mut s = b.sections[at];
+    s.met = met;
+    let mut next = b;
+    next.sections[at] = s;
+    next
+}
+
+pub fn set_condition(b: Book, section: u8, met: bool) -> Answer
+    ensures { λ a. ⌜ a ≡ Rules.conditionAnswer b section met ⌝ }
+{
+    if !judge::good(b) {
+        return Answer {
+            number: BAD_BOOK,
+            book: b,
+        };
+    }
+    let number = refusal(b, section);
+    if number != ACCEPTED {
+        return Answer { number, book: b };
+    }
+    let book = marked(b, section, met);
+    Answer { number, book }
+}

@@ -1,0 +1,71 @@
+use Rattle.numbers.proofs.Tests.{failed, passed}
+use borrow.Author.Tests.{lt-leb, le-leb}
+use Rattle.rules.specs.Book.{good}
+use Rattle.book.proofs.Good.{counts}
+use borrow.Author.Needs.{needs}
+use Rattle.judge.proofs.good.Statement.{statement}
+use Rattle.judge.proofs.good.Tie as tie
+
+terms-good-requires : tie.Need-terms-good-requires
+terms-good-requires c κs = search needs
+
+returns : tie.Need-returns
+unfolding good
+returns c = simp (failed (c .before .terms-good .ensures) (c .if1 .taken))
+
+places-good-requires : tie.Need-places-good-requires
+places-good-requires c κs = search needs
+
+returns-2 : tie.Need-returns-2
+unfolding good
+returns-2 c = simp (passed (c .before .before .before .terms-good .ensures) (c .before .before .if1 .left), failed (c .before .places-good .ensures) (c .if2 .taken))
+
+last-good-requires : tie.Need-last-good-requires
+last-good-requires c κs = search needs
+
+returns-3 : tie.Need-returns-3
+unfolding good
+returns-3 c = simp (passed (c .before .before .before .before .before .terms-good .ensures) (c .before .before .before .before .if1 .left), passed (c .before .before .before .places-good .ensures) (c .before .before .if2 .left), failed (c .before .last-good .ensures) (c .if3 .taken))
+
+returns-4 : tie.Need-returns-4
+unfolding good
+returns-4 c = simp (passed (c .before .before .before .before .before .before .before .terms-good .ensures) (c .before .before .before .before .before .before .if1 .left), passed (c .before .before .before .before .before .places-good .ensures) (c .before .before .before .before .if2 .left), passed (c .before .before .before .last-good .ensures) (c .before .before .if3 .left), lt-leb (c .before .before .before .before .before .before .before .before .args .b .trades) 2_000 (c .if4 .taken))
+
+sections-good-requires : tie.Need-sections-good-requires
+sections-good-requires c κs = (counts _ (passed (c .before .before .before .before .before .places-good .ensures) (c .before .before .before .before .if2 .left)) .0, c .if4 .left)
+
+returns-5 : tie.Need-returns-5
+unfolding good
+returns-5 c = simp (passed (c .before .before .before .before .before .before .before .before .before .terms-good .ensures) (c .before .before .before .before .before .before .before .before .if1 .left), passed (c .before .before .before .before .before .before .before .places-good .ensures) (c .before .before .before .before .before .before .if2 .left), passed (c .before .before .before .before .before .last-good .ensures) (c .before .before .before .before .if3 .left), le-leb (c .before .before .before .before .before .before .before .before .before .before .args .b .trades) 2_000 (c .before .before .if4 .left), failed (c .before .sections-good .ensures) (c .if5 .taken))
+
+notices-good-requires : tie.Need-notices-good-requires
+notices-good-requires c κs = counts _ (passed (c .before .before .before .before .before .before .before .places-good .ensures) (c .before .before .before .before .before .before .if2 .left)) .1
+
+returns-6 : tie.Need-returns-6
+unfolding good
+returns-6 c = simp (passed (c .before .before .before .before .before .before .before .before .before .before .before .terms-good .ensures) (c .before .before .before .before .before .before .before .before .before .before .if1 .left), passed (c .before .before .before .before .before .before .before .before .before .places-good .ensures) (c .before .before .before .before .before .before .before .before .if2 .left), passed (c .before .before .before .before .before .before .before .last-good .ensures) (c .before .before .before .before .before .before .if3 .left), le-leb (c .before .before .before .before .before .before .before .before .before .before .before .before .args .b .trades) 2_000 (c .before .before .before .before .if4 .left), passed (c .before .before .before .sections-good .ensures) (c .before .before .if5 .left), failed (c .before .notices-good .ensures) (c .if6 .taken))
+
+tails-blank-requires : tie.Need-tails-blank-requires
+tails-blank-requires c κs = search needs
+
+returns-7 : tie.Need-returns-7
+unfolding good
+returns-7 c = simp (passed (c .before .before .before .before .before .before .before .before .before .before .before .before .terms-good .ensures) (c .before .before .before .before .before .before .before .before .before .before .before .if1 .left), passed (c .before .before .before .before .before .before .before .before .before .before .places-good .ensures) (c .before .before .before .before .before .before .before .before .before .if2 .left), passed (c .before .before .before .before .before .before .before .before .last-good .ensures) (c .before .before .before .before .before .before .before .if3 .left), le-leb (c .before .before .before .before .before .before .before .before .before .before .before .before .before .args .b .trades) 2_000 (c .before .before .before .before .before .if4 .left), passed (c .before .before .before .before .sections-good .ensures) (c .before .before .before .if5 .left), passed (c .before .before .notices-good .ensures) (c .before .if6 .left)) (c .tails-blank .ensures)
+
+pub good-spec : {M : Type 1} → statement M
+good-spec =
+    tie.close
+    (tie.spec
+    terms-good-requires
+    returns
+    places-good-requires
+    returns-2
+    last-good-requires
+    returns-3
+    returns-4
+    sections-good-requires
+    returns-5
+    notices-good-requires
+    returns-6
+    tails-blank-requires
+    returns-7)

@@ -1,0 +1,27 @@
+use mathlib.Core.Path.{_≡_, _∙_}
+use lib.IntN.{ℤ}
+use Rattle.numbers.specs.Whole.{within}
+use Rattle.numbers.proofs.Whole.{read-as}
+use borrow.Author.Tests.{eq-eqb, ne-eqb}
+use Rattle.rules.specs.Book.{noticeBlank}
+use borrow.Author.Needs.{needs}
+use Rattle.judge.proofs.notices.notice_blank.Statement.{statement}
+use Rattle.judge.proofs.notices.notice_blank.Tie as tie
+
+returns : tie.Need-returns
+unfolding noticeBlank
+returns c = simp (ne-eqb (c .before .before .args .n .section) 0 (c .if1 .taken))
+
+returns-2 : tie.Need-returns-2
+unfolding noticeBlank
+returns-2 c = simp (eq-eqb (c .before .before .before .before .args .n .section) 0 (c .before .before .if1 .left), ne-eqb (c .before .before .before .before .args .n .elevator) 0 (c .if2 .taken))
+
+within-requires : tie.Need-within-requires
+within-requires c κs = search needs
+
+returns-3 : tie.Need-returns-3
+unfolding noticeBlank
+returns-3 c = simp (eq-eqb (c .before .before .before .before .before .before .args .n .section) 0 (c .before .before .before .before .if1 .left), eq-eqb (c .before .before .before .before .before .before .args .n .elevator) 0 (c .before .before .if2 .left)) (c .within .ensures ∙ read-as (λ (z : ℤ). within z 0) (c .before .before .before .before .before .before .args .n .lots .0) (search))
+
+pub notice-blank-spec : {M : Type 1} → statement M
+notice-blank-spec = tie.close (tie.spec returns returns-2 within-requires returns-3)

@@ -1,0 +1,76 @@
+use Prim.Native.Nat.{_-_, _≤_}
+use native.Mathlib.Omega.{arith}
+use mathlib.Core.Path.{_≡_, refl, sym, _∙_}
+use mathlib.Core.Bool.{Bool}
+use mathlib.Core.Logic.{⊎-elim}
+use lib.Dec.{eqb}
+use borrow.Author.Tests.{eq-eqb, ne-eqb}
+use Rattle.numbers.proofs.Tests.{together, fails-left, fails-right}
+use lib.ListN.{length, drop}
+use Rattle.numbers.specs.Lists.{_and_}
+use Rattle.numbers.proofs.Lists.{length-mapped, Has, some-next, some-stop, some-end}
+use Rattle.rules.specs.Book.{filedNotices, noticeAt}
+use Rattle.book.proofs.Held.{filed-length, has-notice}
+use Rattle.rules.specs.declared.book.Notice.{Notice}
+use Rattle.rules.specs.Calls.Notice.{noticeFiled}
+use borrow.Author.Needs.{needs}
+use Rattle.judge.proofs.notices.notice_filed.Statement.{statement}
+use Rattle.judge.proofs.notices.notice_filed.Tie as tie
+
+abbrev Inv-loop : tie.InvT-loop
+Inv-loop section elevator from b filed i₀ i = noticeFiled section elevator (drop from (filedNotices b)) ≡ noticeFiled section elevator (drop i (filedNotices b))
+
+abbrev μ-loop : tie.MeasureT-loop
+μ-loop section elevator from b filed i₀ i = filed - i
+
+places : (c : tie.Start Inv-loop μ-loop) → length (c .args .t1 .notices) ≡ 256
+places c = search (needs, length-mapped)
+
+here : (c : tie.In-loop Inv-loop μ-loop) → Has (filedNotices (c .before .before .args .t1)) (c .before .loop .i) (noticeAt (c .before .before .args .t1) (c .before .loop .i))
+here c = has-notice (c .before .before .args .t1) (places (c .before .before)) (search needs) (c .before .loop .i) (c .loop-test .taken)
+
+past : (c : tie.After-loop Inv-loop μ-loop) → length (filedNotices (c .before .before .args .t1)) ≤ c .before .loop .i
+past c = omega (arith, filed-length (c .before .before .args .t1) (places (c .before .before)) (search needs))
+
+abbrev is : tie.Start Inv-loop μ-loop → Notice → Bool
+is c n = eqb (c .args .section) (n .section) and eqb (c .args .elevator) (n .elevator)
+
+loop-holds : tie.Need-loop-holds Inv-loop μ-loop
+loop-holds c = refl
+
+mul-n : tie.Need-mul-n Inv-loop μ-loop
+mul-n c = search needs
+
+element-copy-out-n : tie.Need-element-copy-out-n Inv-loop μ-loop
+element-copy-out-n c = search needs
+
+returns : tie.Need-returns Inv-loop μ-loop
+returns c = sym (c .before .before .before .before .before .before .loop .inv ∙ some-stop (here (c .before .before .before .before .before)) (is (c .before .before .before .before .before .before .before)) (together (eq-eqb _ _ (c .before .before .if1 .taken)) (eq-eqb _ _ (c .if2 .taken))))
+
+add-i : tie.Need-add-i Inv-loop μ-loop
+add-i c = search needs
+
+loop-less : tie.Need-loop-less Inv-loop μ-loop
+loop-less c = omega arith
+
+loop-again : tie.Need-loop-again Inv-loop μ-loop
+loop-again c = c .before .before .before .before .loop .inv ∙ some-next (here (c .before .before .before)) (is (c .before .before .before .before .before))
+    (⊎-elim (λ w. fails-right (eqb (c .before .before .before .before .before .args .section) (noticeAt (c .before .before .before .before .before .args .t1) (c .before .before .before .before .loop .i) .section)) _ (ne-eqb _ _ (w .2 .left))) (λ w. fails-left _ _ (ne-eqb _ _ (w .left))) (c .if1 .came))
+
+returns-2 : tie.Need-returns-2 Inv-loop μ-loop
+returns-2 c = sym (c .before .loop .inv ∙ some-end _ (c .before .loop .i) (past c) (is (c .before .before)))
+
+pub notice-filed-spec : {M : Type 1} → statement M
+notice-filed-spec =
+    tie.close
+    (tie.spec
+    Inv-loop
+    μ-loop
+    loop-holds
+    mul-n
+    element-copy-out-n
+    returns
+    add-i
+    loop-less
+    loop-again
+    returns-2)

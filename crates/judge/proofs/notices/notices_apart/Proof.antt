@@ -1,0 +1,73 @@
+use Prim.Native.Nat.{_-_, _≤_}
+use native.Mathlib.Omega.{arith}
+use mathlib.Core.Path.{_≡_, refl, sym, _∙_}
+use lib.ListN.{length, drop}
+use Rattle.numbers.specs.Lists.{apart}
+use Rattle.numbers.proofs.Lists.{length-mapped, Has, apart-next, apart-stop, apart-end}
+use Rattle.rules.specs.Book.{filedNotices, noticeAt, noticesAlike}
+use Rattle.book.proofs.Held.{filed-length, has-notice}
+use borrow.Author.Needs.{needs}
+use Rattle.judge.proofs.notices.notices_apart.Statement.{statement}
+use Rattle.judge.proofs.notices.notices_apart.Tie as tie
+
+abbrev Inv-loop : tie.InvT-loop
+Inv-loop b filed i₀ i = apart noticesAlike (filedNotices b) ≡ apart noticesAlike (drop i (filedNotices b))
+
+abbrev μ-loop : tie.MeasureT-loop
+μ-loop b filed i₀ i = filed - i
+
+places : (c : tie.Start Inv-loop μ-loop) → length (c .args .t1 .notices) ≡ 256
+places c = search (needs, length-mapped)
+
+here : (c : tie.In-loop Inv-loop μ-loop) → Has (filedNotices (c .before .before .args .t1)) (c .before .loop .i) (noticeAt (c .before .before .args .t1) (c .before .loop .i))
+here c = has-notice (c .before .before .args .t1) (places (c .before .before)) (search needs) (c .before .loop .i) (c .loop-test .taken)
+
+past : (c : tie.After-loop Inv-loop μ-loop) → length (filedNotices (c .before .before .args .t1)) ≤ c .before .loop .i
+past c = omega (arith, filed-length (c .before .before .args .t1) (places (c .before .before)) (search needs))
+
+loop-holds : tie.Need-loop-holds Inv-loop μ-loop
+loop-holds c = refl
+
+mul-n : tie.Need-mul-n Inv-loop μ-loop
+mul-n c = search needs
+
+element-copy-out-n : tie.Need-element-copy-out-n Inv-loop μ-loop
+element-copy-out-n c = search needs
+
+add-notice-filed : tie.Need-add-notice-filed Inv-loop μ-loop
+add-notice-filed c = search needs
+
+notice-filed-requires : tie.Need-notice-filed-requires Inv-loop μ-loop
+notice-filed-requires c κs = search needs
+
+returns : tie.Need-returns Inv-loop μ-loop
+returns c = sym (c .before .before .before .before .loop .inv ∙ apart-stop (here (c .before .before .before)) noticesAlike (sym (c .before .notice-filed .ensures) ∙ c .if1 .taken))
+
+add-i : tie.Need-add-i Inv-loop μ-loop
+add-i c = search needs
+
+loop-less : tie.Need-loop-less Inv-loop μ-loop
+loop-less c = omega arith
+
+loop-again : tie.Need-loop-again Inv-loop μ-loop
+loop-again c = c .before .before .before .before .loop .inv ∙ apart-next (here (c .before .before .before)) noticesAlike (sym (c .before .notice-filed .ensures) ∙ c .if1 .left)
+
+returns-2 : tie.Need-returns-2 Inv-loop μ-loop
+returns-2 c = sym (c .before .loop .inv ∙ apart-end _ (c .before .loop .i) (past c) noticesAlike)
+
+pub notices-apart-spec : {M : Type 1} → statement M
+notices-apart-spec =
+    tie.close
+    (tie.spec
+    Inv-loop
+    μ-loop
+    loop-holds
+    mul-n
+    element-copy-out-n
+    add-notice-filed
+    notice-filed-requires
+    returns
+    add-i
+    loop-less
+    loop-again
+    returns-2)

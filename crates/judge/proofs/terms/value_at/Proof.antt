@@ -1,0 +1,23 @@
+use Prim.Native.Nat.{ℕ}
+use native.Mathlib.Omega.{arith}
+use mathlib.Core.Path.{ap, _∙_}
+use Rattle.rules.specs.Value.{valueOf}
+use Rattle.book.proofs.Good.{facts}
+use borrow.Author.Needs.{needs}
+use Rattle.judge.proofs.terms.value_at.Statement.{statement}
+use Rattle.judge.proofs.terms.value_at.Tie as tie
+
+factor-requires : tie.Need-factor-requires
+factor-requires c κs = search needs
+
+cast-value : tie.Need-cast-value
+cast-value c = omega (arith, c .factor .ensures, facts _ (c .before .pre) .k .most)
+
+value-requires : tie.Need-value-requires
+value-requires c κs = search needs
+
+returns : tie.Need-returns
+returns c = c .value .ensures ∙ ap (λ (k : ℕ). valueOf k (c .before .before .args .price)) (c .before .factor .ensures)
+
+pub value-at-spec : {M : Type 1} → statement M
+value-at-spec = tie.close (tie.spec factor-requires cast-value value-requires returns)

@@ -1,0 +1,85 @@
+// The terms, the counts and the last session.
+ghost use mathlib.Core.Path.{_≡_};
+ghost use Rattle.numbers.specs.Whole.{between};
+ghost use mathlib.Core.Bool.{true};
+ghost use Rattle.rules.specs.Book.{good, valueAt, stepsGood, factorGood, termsGood, placesGood, lastGood};
+use rules::book::Book;
+use rules::book::LastSession;
+use rules::limits::FACTOR_MOST;
+use rules::limits::LOT_MOST;
+use rules::limits::NOTICE_PLACES;
+use rules::limits::PRICE_MOST;
+use rules::limits::SECTION_PLACES;
+use rules::limits::STEP_MOST;
+use rules::units::Kopecks;
+
+// A number that counts something, from 1 to a limit.
+pub fn counted(n: u32, most: u32) -> bool
+    ensures { λ r. ⌜ r ≡ between 1 most n ⌝ }
+{
+    if n < 1 {
+        return false;
+    }
+    n <= most
+}
+
+pub fn steps_good(w: u32, r: u32) -> bool
+    ensures { λ x. ⌜ x ≡ stepsGood w r ⌝ }
+{
+    if !counted(w, STEP_MOST) {
+        return false;
+    }
+    counted(r, STEP_MOST)
+}
+
+pub fn factor_good(w: u32, r: u32) -> bool
+    ensures { λ x. ⌜ x ≡ factorGood w r ⌝ }
+{
+    let k = value::factor(w, r);
+    if k < 1 {
+        return false;
+    }
+    k <= FACTOR_MOST
+}
+
+pub fn terms_good(b: Book) -> bool
+    ensures { λ r. ⌜ r ≡ termsGood b ⌝ }
+{
+    let lot = b.lot;
+    if !counted(lot.0, LOT_MOST) {
+        return false;
+    }
+    if !steps_good(b.w, b.r) {
+        return false;
+    }
+    factor_good(b.w, b.r)
+}
+
+// The places there are is a matter of types: what is left to see is how many of them are held.
+pub fn places_good(b: Book) -> bool
+    ensures { λ r. ⌜ r ≡ placesGood b ⌝ }
+{
+    if SECTION_PLACES < b.held {
+        return false;
+    }
+    b.filed <= NOTICE_PLACES
+}
+
+pub fn last_good(last: LastSession, price: u32) -> bool
+    ensures { λ r. ⌜ r ≡ lastGood last price ⌝ }
+{
+    match last {
+        LastSession::None => price == 0,
+        LastSession::Day => counted(price, PRICE_MOST),
+        LastSession::Evening => counted(price, PRICE_MOST),
+    }
+}
+
+// V of a price under the book's terms.
+pub fn value_at(b: Book, price: u32) -> Kopecks
+    requires { ⌜ good b ≡ true ⌝ }
+    ensures { λ v. ⌜ v ≡ valueAt b price ⌝ }
+{
+    let k = value::factor(b.w, b.r);
+    value::value(k as u32, price)
+}

@@ -1,0 +1,126 @@
+// A session: margins are paid, and bases start anew from the session's value.
+ghost use mathlib.Core.Path.{_≡_};
+ghost use mathlib.Core.Bool.{true};
+ghost use mathlib.Core.List.{_++_};
+ghost use Prim.Native.Nat.{_≤_};
+ghost use lib.IntN.{natAbs};
+ghost use lib.ListN.{length, drop};
+ghost use Rattle.rules.specs.Book.{good, positionOf, basisOf};
+ghost use Rattle.rules.specs.Calls.Session as Rules;
+use judge::terms;
+use rules::book::Answer;
+use rules::book::Book;
+use rules::book::LastSession;
+use rules::book::Section;
+use rules::limits::ACCEPTED;
+use rules::limits::BAD_BOOK;
+use rules::limits::BAD_SESSION_PRICE;
+use rules::limits::EXPIRED;
+use rules::limits::MARGINS_SHORT;
+use rules::limits::PRICE_MOST;
+use rules::units::Kopecks;
+use value::signed;
+
+// `room` is the length of the margin list.
+pub fn refusal(b: Book, price: u32, room: usize) -> u8
+    requires { ⌜ good b ≡ true ⌝ }
+    ensures { λ n. ⌜ n ≡ Rules.sessionNumber b price room ⌝ }
+{
+    if b.expired {
+        return EXPIRED;
+    }
+    if !terms::counted(price, PRICE_MOST) {
+        return BAD_SESSION_PRICE;
+    }
+    if room < b.held {
+        return MARGINS_SHORT;
+    }
+    ACCEPTED
+}
+
+fn following(last: LastSession) -> LastSession
+    ensures { λ r. ⌜ r ≡ Rules.following last ⌝ }
+{
+    match last {
+        LastSession::None => LastSession::Day,
+        LastSession::Day => LastSession::Evening,
+        LastSession::Evening => LastSession::Day,
+    }
+}
+
+// A section's margin: position times value, less basis.
+fn margin(s: Section, value: Kopecks) -> i64
+    requires { ⌜ (natAbs (positionOf s) ≤ 1_000_000) × (natAbs (basisOf s) ≤ 21_000_000_000_000_000) ⌝ }
+    requires { ⌜ natAbs (value .0) ≤ 1_000_000_000 ⌝ }
+    ensures { λ r. ⌜ r ≡ Rules.marginOf value s ⌝ }
+{
+    let position = s.position;
+    let basis = s.basis.0;
+    let worth = value::worth(position, value).0;
+    signed::difference(worth, basis)
+}
+
+// A section after the session: its basis is position times value.
+fn settled(s: Section, value: Kopecks) -> Section
+    requires { ⌜ (natAbs (positionOf s) ≤ 1_000_000) × (natAbs (value .0) ≤ 1_000_000_000) ⌝ }
+    ensures { λ r. ⌜ r ≡ Rules.settled value s ⌝ }
+{
+    let position = s.position;
+    let basis = value::worth(position, value);
+    let mut next = s;
+    next.basis = basis;
+    next
+}
+
+// The book after the session; each section's margin goes into its place of the list.
+pub fn after_session(b: Book, price: u32, margins: &mut [i64]) -> Book
+    requires { ⌜ Rules.sessionNumber b price (length (now margins)) ≡ 0 ⌝ }
+    ensures { λ r. ⌜ r ≡ Rules.afterSession b price ⌝ }
+    ensures { λ r. ⌜ now (margins .exit) ≡ Rules.margins b price ++ drop (length (Rules.margins b price)) (now (margins .entry)) ⌝ }
+{
+    let value = terms::value_at(b, price);
+    let held = b.held;
+    let mut sections = b.sections;
+    let mut i = 0;
+    while i < held {
+        let s = b.sections[i];
+        margins[i] = margin(s, value);
+        sections[i] = settled(s, value);
+        i += 1;
+    }
+    let last = b.last;
+    let next = following(last);
+    let lot = b.lot;
+    let notices = b.notices;
+    Book {
+        lot,
+        w: b.w,
+        r: b.r,
+        sections,
+        held,
+        notices,
+        filed: b.filed,
+        last: next,
+        price,
+        trades: 0,
+        expired: b.expired,
+    }
+}
+
+pub fn hold_session(b: Book, price: u32, margins: &mut [i64]) -> Answer
+    ensures { λ a. ⌜ a ≡ Rules.sessionAnswer b price (length (now (margins .entry))) ⌝ }
+    ensures { λ a. ⌜ now (margins .exit) ≡ Rules.sessionMargins b price (now (margins .entry)) ⌝ }
+{
+    if !judge::good(b) {
+        return Answer {
+            number: BAD_BOOK,
+            book: b,
+        };
+    }
+    let number = refusal(b, price, margins.len());
+    if number != ACCEPTED {
+        return Answer { number, book: b };
+    }
+    let book = after_session(b, price, margins);
+    Answer { number, book }
+}

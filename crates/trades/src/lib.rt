@@ -1,0 +1,161 @@
+// A trade.
+ghost use mathlib.Core.Path.{_≡_};
+ghost use mathlib.Core.Bool.{true};
+ghost use Prim.Native.Nat.{_≤_, _<_};
+ghost use lib.IntN.{natAbs};
+ghost use Rattle.rules.specs.Book.{good, positionOf, basisOf, valueAt};
+ghost use Rattle.rules.specs.Calls.{first};
+ghost use Rattle.rules.specs.Calls.Trade as Rules;
+use judge::terms;
+use rules::book::Answer;
+use rules::book::Book;
+use rules::book::Section;
+use rules::limits::ACCEPTED;
+use rules::limits::BAD_BOOK;
+use rules::limits::BAD_TRADE_LOTS;
+use rules::limits::BAD_TRADE_PRICE;
+use rules::limits::BUYER_IS_SELLER;
+use rules::limits::EXPIRED;
+use rules::limits::POSITION_MOST;
+use rules::limits::POSITION_PASSED;
+use rules::limits::PRICE_MOST;
+use rules::limits::TRADE_LOTS_MOST;
+use rules::limits::TRADES_FULL;
+use rules::limits::TRADES_MOST;
+use rules::limits::UNKNOWN_SECTION;
+use rules::units::Kopecks;
+use rules::units::Lots;
+use value::signed;
+
+// Whether a position, so many lots on, would pass its limit.
+fn passes(s: Section, lots: i64) -> bool
+    requires { ⌜ (natAbs (positionOf s) ≤ 1_000_000) × (natAbs lots ≤ 10_000) ⌝ }
+    ensures { λ r. ⌜ r ≡ Rules.passes s lots ⌝ }
+{
+    let position = s.position.0;
+    let next = signed::sum(position, lots);
+    !signed::within(next, POSITION_MOST)
+}
+
+fn party_refusal(b: Book, buyer: u8, seller: u8) -> u8
+    requires { ⌜ good b ≡ true ⌝ }
+    ensures { λ n. ⌜ n ≡ first (Rules.partyRefusals b buyer seller) ⌝ }
+{
+    if b.expired {
+        return EXPIRED;
+    }
+    if b.held <= (buyer as usize) {
+        return UNKNOWN_SECTION;
+    }
+    if b.held <= (seller as usize) {
+        return UNKNOWN_SECTION;
+    }
+    if buyer == seller {
+        return BUYER_IS_SELLER;
+    }
+    ACCEPTED
+}
+
+fn size_refusal(r: u32, price: u32, lots: u32) -> u8
+    requires { ⌜ 1 ≤ r ⌝ }
+    ensures { λ n. ⌜ n ≡ first (Rules.sizeRefusals r price lots) ⌝ }
+{
+    if !terms::counted(price, PRICE_MOST) {
+        return BAD_TRADE_PRICE;
+    }
+    if price % r != 0 {
+        return BAD_TRADE_PRICE;
+    }
+    if !terms::counted(lots, TRADE_LOTS_MOST) {
+        return BAD_TRADE_LOTS;
+    }
+    ACCEPTED
+}
+
+fn room_refusal(b: Book, buyer: u8, seller: u8, lots: u32) -> u8
+    requires { ⌜ good b ≡ true ⌝ }
+    requires { ⌜ (buyer < b .held) × (seller < b .held) × (lots ≤ 10_000) ⌝ }
+    ensures { λ n. ⌜ n ≡ first (Rules.roomRefusals b buyer seller lots) ⌝ }
+{
+    let s = b.sections[buyer as usize];
+    if passes(s, lots as i64) {
+        return POSITION_PASSED;
+    }
+    let t = b.sections[seller as usize];
+    if passes(t, 0 - (lots as i64)) {
+        return POSITION_PASSED;
+    }
+    if TRADES_MOST <= b.trades {
+        return TRADES_FULL;
+    }
+    ACCEPTED
+}
+
+pub fn refusal(b: Book, buyer: u8, seller: u8, price: u32, lots: u32) -> u8
+    requires { ⌜ good b ≡ true ⌝ }
+    ensures { λ n. ⌜ n ≡ Rules.tradeNumber b buyer seller price lots ⌝ }
+{
+    let party = party_refusal(b, buyer, seller);
+    if party != ACCEPTED {
+        return party;
+    }
+    let size = size_refusal(b.r, price, lots);
+    if size != ACCEPTED {
+        return size;
+    }
+    room_refusal(b, buyer, seller, lots)
+}
+
+// A section after a trade of so many lots, bought plus, sold minus, at an entry value.
+fn moved(s: Section, lots: Lots, value: Kopecks) -> Section
+    requires { ⌜ (natAbs (positionOf s) ≤ 1_000_000) × (natAbs (basisOf s) ≤ 21_000_000_000_000_000) ⌝ }
+    requires { ⌜ (natAbs (lots .0) ≤ 10_000) × (natAbs (value .0) ≤ 1_000_000_000) ⌝ }
+    ensures { λ r. ⌜ r ≡ Rules.moved s lots value ⌝ }
+{
+    let position = s.position.0;
+    let basis = s.basis.0;
+    let count = lots.0;
+    let paid = value::worth(lots, value).0;
+    let held = Lots(signed::sum(position, count));
+    let owed = Kopecks(signed::sum(basis, paid));
+    let mut next = s;
+    next.position = held;
+    next.basis = owed;
+    next
+}
+
+// The book after the trade: the buyer moves by the lots, the seller by as many the other way.
+pub fn traded(b: Book, buyer: u8, seller: u8, price: u32, lots: u32) -> Book
+    requires { ⌜ Rules.tradeNumber b buyer seller price lots ≡ 0 ⌝ }
+    ensures { λ r. ⌜ r ≡ Rules.traded b buyer seller price lots ⌝ }
+{
+    let value = terms::value_at(b, price);
+    let bought = buyer as usize;
+    let sold = seller as usize;
+    let s = b.sections[bought];
+    let t = b.sections[sold];
+    let buying = moved(s, Lots(lots as i64), value);
+    let selling = moved(t, Lots(0 - (lots as i64)), value);
+    let mut next = b;
+    next.sections[bought] = buying;
+    next.sections[sold] = selling;
+    next.trades = b.trades + 1;
+    next
+}
+
+pub fn trade(b: Book, buyer: u8, seller: u8, price: u32, lots: u32) -> Answer
+    ensures { λ a. ⌜ a ≡ Rules.tradeAnswer b buyer seller price lots ⌝ }
+{
+    if !judge::good(b) {
+        return Answer {
+            number: BAD_BOOK,
+            book: b,
+        };
+    }
+    let number = refusal(b, buyer, seller, price, lots);
+    if number != ACCEPTED {
+        return Answer { number, book: b };
+    }
+    let book = traded(b, buyer, seller, price, lots);
+    Answer { number, book }
+}
