@@ -1,0 +1,16 @@
+//! The wheat delivery book, read from its papers: the contract
+//! specification (001), the method of choosing parties at delivery (000) and
+//! document 01, which condenses both. Quotations in the comments are document
+//! 01's sentences unless another paper is named.
+
+pub mod book;
+pub mod calls;
+pub mod demand;
+pub mod expiry;
+pub mod file;
+pub mod generate;
+pub mod listing;
+pub mod random;
+pub mod reach;
+pub mod refusal;
+pub mod value;

@@ -1,0 +1,220 @@
+//! Books and files that several tests use.
+#![allow(dead_code)]
+
+use wheat_delivery::book::{Book, Notice, Section, SectionCode, SessionKind};
+use wheat_delivery::calls::{Counts, ExpiryLists, open};
+use wheat_delivery::demand::Entry;
+use wheat_delivery::file::Event;
+use wheat_delivery::listing::Lists;
+use wheat_delivery::refusal::Refusal;
+
+/// A section code from text.
+pub fn code(text: &str) -> SectionCode {
+    SectionCode(text.as_bytes().try_into().expect("seven bytes"))
+}
+
+/// A book with K 100,000, so that the value of a price is the price.
+pub fn opened() -> Book {
+    let (answer, book) = open(25, 100, 100);
+    assert_eq!(answer, Ok(()));
+    book
+}
+
+/// A section for `book_of`: settlement code, section code, position, sound.
+pub type Row<'a> = (u8, &'a str, i64, bool);
+
+/// A book ready for its expiry. A sound short section has the notices given or,
+/// if there are none, one of all its lots at elevator 0.
+pub fn book_of(rows: &[Row], notices: &[(u8, u8, u32)]) -> Book {
+    let mut book = opened();
+    for &(settlement_code, text, position, sound) in rows {
+        book.sections[book.sections_held] = Section {
+            settlement_code,
+            code: code(text),
+            participant: 7,
+            seller: true,
+            condition_met: sound,
+            position,
+            basis: 100 * position,
+        };
+        book.sections_held += 1;
+    }
+    for &(section, elevator, lots) in notices {
+        add_notice(&mut book, section, elevator, lots);
+    }
+    for (number, &(_, _, position, sound)) in rows.iter().enumerate() {
+        let has = book
+            .notices()
+            .iter()
+            .any(|n| usize::from(n.section) == number);
+        if position < 0 && sound && !has {
+            add_notice(&mut book, number as u8, 0, position.unsigned_abs() as u32);
+        }
+    }
+    book.last_session = SessionKind::Day;
+    book.last_price = 100;
+    assert!(book.is_good(), "the book of the test is good");
+    book
+}
+
+fn add_notice(book: &mut Book, section: u8, elevator: u8, lots: u32) {
+    book.notices[book.notices_held] = Notice {
+        section,
+        elevator,
+        lots,
+    };
+    book.notices_held += 1;
+}
+
+/// What an expiry of the book hands out, in lists of full length.
+#[derive(Debug, PartialEq, Eq)]
+pub struct Expired {
+    pub counts: Counts,
+    pub register: Vec<(u8, u8, u8, u32)>,
+    pub delivered: Vec<u32>,
+    pub terminated: Vec<u32>,
+}
+
+/// The expiry of a copy of the book.
+pub fn expire(book: &Book) -> Result<Expired, Refusal> {
+    let mut book = book.clone();
+    let mut lists = Lists::full();
+    let counts = book.expiry(lists.lend().expiry)?;
+    let line = |i: usize| {
+        (
+            lists.buyers[i],
+            lists.elevators[i],
+            lists.sellers[i],
+            lists.lots[i],
+        )
+    };
+    Ok(Expired {
+        counts,
+        register: (0..counts.lines).map(line).collect(),
+        delivered: lists.delivered[..book.sections_held].to_vec(),
+        terminated: lists.terminated[..book.sections_held].to_vec(),
+    })
+}
+
+/// Lists for an expiry, of the lengths given.
+pub struct Lent {
+    pub bytes: [Vec<u8>; 3],
+    pub lots: Vec<u32>,
+    pub delivered: Vec<u32>,
+    pub terminated: Vec<u32>,
+}
+
+impl Lent {
+    pub fn new(register: [usize; 4], delivered: usize, terminated: usize) -> Lent {
+        let [buyers, elevators, sellers, lots] = register;
+        Lent {
+            bytes: [vec![201; buyers], vec![202; elevators], vec![203; sellers]],
+            lots: vec![204; lots],
+            delivered: vec![205; delivered],
+            terminated: vec![206; terminated],
+        }
+    }
+
+    pub fn lend(&mut self) -> ExpiryLists<'_> {
+        let [buyers, elevators, sellers] = &mut self.bytes;
+        ExpiryLists {
+            buyers,
+            elevators,
+            sellers,
+            lots: &mut self.lots,
+            delivered: &mut self.delivered,
+            terminated: &mut self.terminated,
+        }
+    }
+
+    pub fn is_untouched(&self) -> bool {
+        let all = |bytes: &[u8], byte: u8| bytes.iter().all(|&b| b == byte);
+        let each = |numbers: &[u32], number: u32| numbers.iter().all(|&n| n == number);
+        all(&self.bytes[0], 201)
+            && all(&self.bytes[1], 202)
+            && all(&self.bytes[2], 203)
+            && each(&self.lots, 204)
+            && each(&self.delivered, 205)
+            && each(&self.terminated, 206)
+    }
+}
+
+/// A line of a register, for histories.
+pub fn entry(buyer: u8, elevator: u8, seller: u8, lots: u32) -> Entry {
+    Entry {
+        buyer,
+        elevator,
+        seller,
+        lots,
+    }
+}
+
+pub fn section(settlement_code: u8, seller: bool, text: &str, participant: u32) -> Event {
+    Event::Section {
+        settlement_code,
+        seller,
+        code: code(text),
+        participant,
+    }
+}
+
+pub fn trade(buyer: u8, seller: u8, price: u32, lots: u32) -> Event {
+    Event::Trade {
+        buyer,
+        seller,
+        price,
+        lots,
+    }
+}
+
+pub fn session(price: u32) -> Event {
+    Event::Session { price }
+}
+
+pub fn condition(section: u8, met: bool) -> Event {
+    Event::Condition { section, met }
+}
+
+pub fn notice(section: u8, elevator: u8, lots: u32) -> Event {
+    Event::Notice {
+        section,
+        elevator,
+        lots,
+    }
+}
+
+/// The contract of the last case of "Checked by hand": lot, W, R.
+pub const HAND_CONTRACT: (u32, u32, u32) = (25, 2_500, 100);
+
+/// The fifteen events of that case.
+pub fn hand_events() -> Vec<Event> {
+    vec![
+        section(1, false, "A000001", 1),
+        section(1, true, "A000002", 2),
+        section(2, true, "B000001", 3),
+        section(3, false, "C000001", 4),
+        trade(0, 1, 1_500_000, 2),
+        trade(0, 2, 1_500_000, 3),
+        trade(3, 2, 1_510_000, 3),
+        session(1_520_000),
+        condition(0, true),
+        condition(1, true),
+        condition(2, true),
+        notice(1, 0, 2),
+        notice(2, 4, 2),
+        notice(2, 1, 4),
+        Event::Expiry,
+    ]
+}
+
+/// What the program prints for that case.
+pub const HAND_LISTING: &str = "\
+register 3
+A000001 0 A000002 2 50
+A000001 4 B000001 2 50
+A000001 1 B000001 1 25
+A000001 5 0 2500000
+A000002 2 0 -1000000
+B000001 3 3 -2250000
+C000001 0 3 750000
+";

@@ -1,0 +1,291 @@
+//! Demand 3 over generated lists of calls, and that its assertions bite.
+
+mod common;
+
+use common::{HAND_CONTRACT, entry, hand_events};
+use std::collections::BTreeSet;
+use wheat_delivery::demand::{Call, Expiry, History, Outcome, run};
+use wheat_delivery::file::{self, Event, Reader};
+use wheat_delivery::generate::{self, FULL};
+use wheat_delivery::listing::Lists;
+use wheat_delivery::refusal::Refusal;
+use wheat_delivery::value::{factor, value};
+
+/// The history of the list of calls of a seed, where it has one.
+fn history(seed: u64) -> Option<History> {
+    let (contract, calls) = generate::calls(seed, &generate::file(seed))?;
+    run(contract.lot, contract.w, contract.r, &calls).unwrap()
+}
+
+/// The history of the fifteen events checked by hand.
+fn hand_history() -> History {
+    let (lot, w, r) = HAND_CONTRACT;
+    let call = |event| Call {
+        event,
+        lengths: FULL,
+    };
+    let calls: Vec<Call> = hand_events().into_iter().map(call).collect();
+    run(lot, w, r, &calls).unwrap().unwrap()
+}
+
+#[test]
+fn demand_3_holds_over_generated_lists_with_refused_calls_among_them() {
+    let (mut expiries, mut refused) = (0, BTreeSet::new());
+    for seed in 0..1_600 {
+        let Some(history) = history(seed) else {
+            continue;
+        };
+        history
+            .demand_three()
+            .unwrap_or_else(|breach| panic!("seed {seed}: {breach}"));
+        expiries += usize::from(history.has_expiry());
+        let answers = history
+            .steps
+            .iter()
+            .filter_map(|step| step.answer.as_ref().err());
+        refused.extend(answers.map(|refusal| refusal.number()));
+    }
+    assert!(expiries > 800, "{expiries} lists with an expiry");
+    let every: BTreeSet<u8> = (5..=24).collect();
+    assert_eq!(refused, every, "every number a call of a list can answer");
+}
+
+#[test]
+fn demand_3_holds_wherever_a_list_stops() {
+    for seed in 0..400 {
+        let Some(history) = history(seed).filter(|history| history.steps.len() < 120) else {
+            continue;
+        };
+        for calls in 0..=history.steps.len() {
+            let stopped = history.prefix(calls).demand_three();
+            stopped.unwrap_or_else(|breach| panic!("seed {seed}, {calls} calls: {breach}"));
+        }
+    }
+}
+
+#[test]
+fn demand_3_holds_over_the_empty_list() {
+    let history = run(1, 1, 1, &[]).unwrap().unwrap();
+    assert_eq!(history.demand_three(), Ok(()));
+}
+
+#[test]
+fn a_refused_opening_starts_no_list() {
+    assert_eq!(run(0, 1, 1, &[]), Ok(None));
+}
+
+/// What demand 3 says of the hand case after a change to its history.
+fn breach(change: impl Fn(&mut History)) -> String {
+    let mut history = hand_history();
+    assert_eq!(history.demand_three(), Ok(()));
+    change(&mut history);
+    history.demand_three().expect_err("a breach")
+}
+
+/// What the expiry of the hand case handed out.
+fn expiry(history: &mut History) -> &mut Expiry {
+    match &mut history.steps[14].answer {
+        Ok(Outcome::Expiry(expiry)) => expiry,
+        other => panic!("no expiry: {other:?}"),
+    }
+}
+
+fn margins(history: &mut History) -> &mut Vec<i64> {
+    match &mut history.steps[7].answer {
+        Ok(Outcome::Session { margins }) => margins,
+        other => panic!("no session: {other:?}"),
+    }
+}
+
+#[test]
+fn margins_that_do_not_sum_to_zero_break_demand_3() {
+    assert!(breach(|h| margins(h)[0] += 1).contains("sum to 1"));
+}
+
+#[test]
+fn margins_that_sum_to_zero_but_are_not_the_gains_break_demand_3() {
+    let told = breach(|h| {
+        margins(h)[0] += 1;
+        margins(h)[1] -= 1;
+    });
+    assert!(told.contains("gains"));
+    assert!(breach(|h| margins(h).fill(0)).contains("gains"));
+}
+
+#[test]
+fn lots_neither_delivered_nor_terminated_break_demand_3() {
+    assert!(breach(|h| expiry(h).terminated[2] -= 1).contains("section 2"));
+    assert!(breach(|h| expiry(h).delivered[0] += 1).contains("section 0"));
+}
+
+#[test]
+fn a_register_unlike_the_delivered_lots_breaks_demand_3() {
+    let all_terminated = breach(|h| {
+        let Expiry {
+            delivered,
+            terminated,
+            ..
+        } = expiry(h);
+        terminated
+            .iter_mut()
+            .zip(delivered)
+            .for_each(|(t, d)| *t += std::mem::take(d));
+    });
+    assert!(all_terminated.contains("in the register"));
+    assert!(breach(|h| expiry(h).register[0].lots += 1).contains("in the register"));
+    assert!(breach(|h| expiry(h).register[2].seller = 1).contains("in the register"));
+}
+
+#[test]
+fn a_line_count_unlike_the_register_breaks_demand_3() {
+    assert!(breach(|h| expiry(h).counts.lines += 1).contains("counts the lines"));
+}
+
+#[test]
+fn a_notice_drawn_beyond_its_lots_breaks_demand_3() {
+    assert!(breach(|h| expiry(h).register[2].elevator = 4).contains("drawn of 2"));
+    assert!(breach(|h| expiry(h).register[2].elevator = 9).contains("drawn of 0"));
+}
+
+#[test]
+fn more_lines_than_sections_and_notices_allow_break_demand_3() {
+    let told = breach(|h| {
+        let expiry = expiry(h);
+        expiry.register[0].lots = 1;
+        expiry.register.push(entry(0, 0, 1, 1));
+        expiry.counts.lines += 1;
+    });
+    assert!(told.contains("4 lines, 1 long sections delivering, 3 notices drawn"));
+}
+
+#[test]
+fn the_bytes_of_each_accepted_file_are_those_of_the_writer() {
+    let mut accepted = 0;
+    for seed in 0..1_600 {
+        let bytes = generate::file(seed);
+        let mut lists = Lists::full();
+        let reading = file::read(&bytes, lists.lend());
+        if reading.answer.is_err() {
+            continue;
+        }
+        let mut reader = Reader::new(&bytes);
+        let events: Vec<Event> = (0..reading.place)
+            .map(|_| reader.read().event.unwrap())
+            .collect();
+        let (lot, w, r) = file::contract_in(&bytes);
+        assert_eq!(file::write(lot, w, r, &events), Ok(bytes), "seed {seed}");
+        accepted += 1;
+    }
+    assert!(accepted > 500, "{accepted} accepted files");
+}
+
+#[test]
+fn a_read_answers_as_its_events_called_one_by_one() {
+    for seed in 0..800 {
+        let bytes = generate::file(seed);
+        let Ok(n) = file::events_in(&bytes) else {
+            continue;
+        };
+        let mut reader = Reader::new(&bytes);
+        let events: Vec<_> = (0..n).map_while(|_| reader.read().event.ok()).collect();
+        let calls: Vec<_> = events
+            .iter()
+            .map(|&event| Call {
+                event,
+                lengths: FULL,
+            })
+            .collect();
+        let (lot, w, r) = file::contract_in(&bytes);
+        let Some(history) = run(lot, w, r, &calls).unwrap() else {
+            continue;
+        };
+        let refused = history.steps.iter().position(|step| step.answer.is_err());
+        let last = history.steps.last().map(|step| &step.answer);
+        let wanted = match refused {
+            Some(place) => (history.steps[place].answer.clone().err(), place),
+            None if events.len() < n => (Some(Refusal::Malformed), events.len()),
+            None if matches!(last, Some(Ok(Outcome::Expiry(_)))) => (None, n),
+            None => (Some(Refusal::NoExpiryLast), n),
+        };
+        let mut lists = Lists::full();
+        let reading = file::read(&bytes, lists.lend());
+        assert_eq!((reading.answer.err(), reading.place), wanted, "seed {seed}");
+    }
+}
+
+/// The margins of one lot bought at a price, session by session, as the
+/// specification's 2.1.3 writes them: the first session of a day is the day
+/// session, the second the evening session.
+fn margins_by_specification(k: u64, entry: u32, first: usize, prices: &[u32]) -> Vec<i64> {
+    let v = |price: u32| value(price, k);
+    let mut paid = vec![0; first];
+    for (at, &price) in prices.iter().enumerate().skip(first) {
+        let evening = at % 2 == 1;
+        let margin = if !evening && at == first {
+            v(price) - v(entry)
+        } else if !evening {
+            v(price) - v(prices[at - 1])
+        } else if at == first {
+            v(price) - v(entry)
+        } else {
+            // VM2 = VM - VM1, VM from the entry or from the evening before.
+            let computed_evening_before = at >= first + 2;
+            let from = if computed_evening_before {
+                prices[at - 2]
+            } else {
+                entry
+            };
+            (v(price) - v(from)) - paid[at - 1]
+        };
+        paid.push(margin);
+    }
+    paid
+}
+
+#[test]
+fn margins_are_the_specifications_trade_by_trade() {
+    for seed in (0..1_600).filter(|&seed| generate::kind(seed) == generate::Kind::Medium) {
+        let Some(history) = history(seed) else {
+            continue;
+        };
+        let accepted: Vec<_> = history
+            .steps
+            .iter()
+            .filter(|step| step.answer.is_ok())
+            .collect();
+        let sessions: Vec<(u32, &Vec<i64>)> = accepted
+            .iter()
+            .filter_map(|step| match (step.event, &step.answer) {
+                (Event::Session { price }, Ok(Outcome::Session { margins })) => {
+                    Some((price, margins))
+                }
+                _ => None,
+            })
+            .collect();
+        let prices: Vec<u32> = sessions.iter().map(|(price, _)| *price).collect();
+        let k = factor(history.w, history.r);
+        let mut paid = vec![[0_i64; 128]; prices.len()];
+        let mut first = 0;
+        for step in &accepted {
+            match step.event {
+                Event::Session { .. } => first += 1,
+                Event::Trade {
+                    buyer,
+                    seller,
+                    price,
+                    lots,
+                } => {
+                    let margins = margins_by_specification(k, price, first, &prices);
+                    for (session, margin) in margins.into_iter().enumerate() {
+                        paid[session][usize::from(buyer)] += i64::from(lots) * margin;
+                        paid[session][usize::from(seller)] -= i64::from(lots) * margin;
+                    }
+                }
+                _ => {}
+            }
+        }
+        for (paid, (_, margins)) in paid.iter().zip(sessions) {
+            assert_eq!(paid[..margins.len()], margins[..], "seed {seed}");
+        }
+    }
+}

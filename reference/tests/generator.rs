@@ -1,0 +1,84 @@
+//! The generator: the same seed gives the same bytes, and it reaches what it
+//! should.
+
+use wheat_delivery::file::events_in;
+use wheat_delivery::generate::{Kind, calls, file, kind};
+use wheat_delivery::random::Random;
+use wheat_delivery::reach::Reach;
+
+/// FNV-1a over the files of some seeds.
+fn digest(seeds: std::ops::Range<u64>) -> u64 {
+    let mut digest = 0xCBF2_9CE4_8422_2325_u64;
+    for byte in seeds.flat_map(file) {
+        digest = (digest ^ u64::from(byte)).wrapping_mul(0x0100_0000_01B3);
+    }
+    digest
+}
+
+#[test]
+fn the_same_seed_gives_the_same_bytes() {
+    for seed in (0..200).chain([u64::MAX, 1 << 40]) {
+        assert_eq!(file(seed), file(seed));
+        assert_eq!(calls(seed, &file(seed)), calls(seed, &file(seed)));
+    }
+}
+
+#[test]
+fn the_first_files_have_the_bytes_they_always_had() {
+    assert_eq!(
+        digest(0..64),
+        DIGEST,
+        "a change of the generator changes every seed's file"
+    );
+}
+
+const DIGEST: u64 = 14_297_501_949_340_494_985;
+
+#[test]
+fn neighbouring_seeds_give_different_files() {
+    for seed in 0..200 {
+        assert_ne!(file(seed), file(seed + 16));
+    }
+}
+
+#[test]
+fn the_random_numbers_are_those_of_splitmix64() {
+    let mut random = Random::new(1_234_567);
+    let first: [u64; 3] = std::array::from_fn(|_| random.bits());
+    assert_eq!(
+        first,
+        [
+            6_457_827_717_110_365_317,
+            3_203_168_211_198_807_973,
+            9_817_491_932_198_370_423
+        ]
+    );
+}
+
+#[test]
+fn every_stretch_of_sixteen_seeds_has_the_four_kinds() {
+    for start in 0..40 {
+        let kinds: Vec<Kind> = (start..start + 16).map(kind).collect();
+        for wanted in [Kind::Small, Kind::Medium, Kind::Limits, Kind::Damaged] {
+            assert!(kinds.contains(&wanted));
+        }
+    }
+}
+
+#[test]
+fn files_that_are_not_damaged_have_the_right_size_or_one_event_too_many() {
+    for seed in (0..800).filter(|&seed| kind(seed) != Kind::Damaged) {
+        let bytes = file(seed);
+        let one_too_many = bytes.len() == 16 + 17 * 3_801;
+        assert!(events_in(&bytes).is_ok() || one_too_many, "seed {seed}");
+    }
+}
+
+#[test]
+fn the_generator_reaches_every_refusal_of_a_file_and_every_turn_of_expiry() {
+    let mut reach = Reach::default();
+    for seed in 0..6_400 {
+        reach.add(kind(seed), &file(seed));
+    }
+    assert_eq!(reach.missing(), [""; 0], "{reach}");
+}

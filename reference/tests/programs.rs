@@ -1,0 +1,170 @@
+//! The programs: what they print and how they end.
+
+mod common;
+
+use common::{HAND_CONTRACT, HAND_LISTING, hand_events};
+use std::io::Write;
+use std::path::PathBuf;
+use std::process::{Command, Output, Stdio};
+use wheat_delivery::file::write;
+use wheat_delivery::generate;
+use wheat_delivery::listing::listing;
+
+const LISTING: &str = env!("CARGO_BIN_EXE_listing");
+const COMPARE: &str = env!("CARGO_BIN_EXE_compare");
+const GENERATE: &str = env!("CARGO_BIN_EXE_generate");
+const CHECK: &str = env!("CARGO_BIN_EXE_check");
+
+/// A folder of this test's own.
+fn folder(name: &str) -> PathBuf {
+    let folder = PathBuf::from(env!("CARGO_TARGET_TMPDIR")).join(name);
+    let _ = std::fs::remove_dir_all(&folder);
+    folder
+}
+
+fn list(file: &[u8]) -> Output {
+    let mut child = Command::new(LISTING)
+        .stdin(Stdio::piped())
+        .stdout(Stdio::piped())
+        .stderr(Stdio::piped())
+        .spawn()
+        .unwrap();
+    child.stdin.take().unwrap().write_all(file).unwrap();
+    child.wait_with_output().unwrap()
+}
+
+fn compare(program: &str, count: &str, seed: &str, folder: &PathBuf) -> Output {
+    let arguments = [program, count, seed];
+    Command::new(COMPARE)
+        .args(arguments)
+        .arg(folder)
+        .output()
+        .unwrap()
+}
+
+#[test]
+fn the_program_prints_the_listing_of_the_file_on_standard_input() {
+    let (lot, w, r) = HAND_CONTRACT;
+    let output = list(&write(lot, w, r, &hand_events()).unwrap());
+    assert_eq!(output.stdout, HAND_LISTING.as_bytes());
+    assert!(output.status.success() && output.stderr.is_empty());
+}
+
+#[test]
+fn a_refused_file_is_a_normal_answer() {
+    let output = list(b"");
+    assert_eq!(output.stdout, b"refused 25 0\n");
+    assert!(output.status.success() && output.stderr.is_empty());
+}
+
+#[test]
+fn the_program_and_the_library_print_the_same() {
+    for seed in 0..64 {
+        let file = generate::file(seed);
+        assert_eq!(list(&file).stdout, listing(&file).as_bytes());
+    }
+}
+
+#[test]
+fn a_comparison_with_a_program_that_agrees_ends_well() {
+    let output = compare(LISTING, "48", "7", &folder("agrees"));
+    assert_eq!(output.stdout, b"48 of 48 files agree\n");
+    assert!(output.status.success());
+}
+
+#[cfg(unix)]
+#[test]
+fn a_comparison_with_a_program_that_differs_keeps_the_first_file_and_fails() {
+    let folder = folder("differs");
+    let output = compare("/bin/cat", "20", "5", &folder);
+    let text = String::from_utf8(output.stdout).unwrap();
+    assert!(
+        text.starts_with("0 of 20 files agree\nfirst that does not: seed 5 "),
+        "{text}"
+    );
+    assert!(!output.status.success());
+    assert_eq!(
+        std::fs::read(folder.join("5.events")).unwrap(),
+        generate::file(5)
+    );
+    assert_eq!(
+        std::fs::read(folder.join("5.program")).unwrap(),
+        generate::file(5)
+    );
+    let listed = listing(&generate::file(5));
+    assert_eq!(
+        std::fs::read(folder.join("5.reference")).unwrap(),
+        listed.as_bytes()
+    );
+    assert_eq!(std::fs::read_dir(&folder).unwrap().count(), 3);
+}
+
+#[test]
+fn a_comparison_with_a_program_that_cannot_be_run_fails() {
+    let output = compare("./no-such-program", "3", "1", &folder("missing"));
+    assert!(!output.status.success() && output.stdout.is_empty());
+    let unrunnable = concat!(env!("CARGO_MANIFEST_DIR"), "/Cargo.toml");
+    assert!(
+        !compare(unrunnable, "3", "1", &folder("missing"))
+            .status
+            .success()
+    );
+}
+
+#[test]
+fn a_comparison_with_a_bad_count_or_seed_fails() {
+    let folder = folder("bad");
+    for count in ["0", "-1", "", "x", "1.5", "99999999999999999999999"] {
+        let output = compare(LISTING, count, "1", &folder);
+        assert!(
+            !output.status.success() && output.stdout.is_empty(),
+            "{count:?}"
+        );
+    }
+    assert!(!compare(LISTING, "1", "x", &folder).status.success());
+}
+
+#[test]
+fn the_generator_writes_its_files_into_a_folder() {
+    let folder = folder("generated");
+    let arguments = ["5", "100"];
+    let status = Command::new(GENERATE)
+        .args(arguments)
+        .arg(&folder)
+        .status()
+        .unwrap();
+    assert!(status.success());
+    for seed in 100..105 {
+        let path = folder.join(format!("{seed}.events"));
+        assert_eq!(std::fs::read(path).unwrap(), generate::file(seed));
+    }
+}
+
+#[test]
+fn a_report_over_few_files_says_what_was_not_reached_and_fails() {
+    let output = Command::new(GENERATE)
+        .args(["--report", "4", "0"])
+        .output()
+        .unwrap();
+    let text = String::from_utf8(output.stdout).unwrap();
+    assert!(
+        text.contains("files 4,") && text.contains("not reached: "),
+        "{text}"
+    );
+    assert!(!output.status.success());
+}
+
+#[test]
+fn a_check_over_generated_files_ends_well() {
+    let output = Command::new(CHECK).args(["64", "0"]).output().unwrap();
+    assert!(output.stdout.starts_with(b"64 files hold in "));
+    assert!(output.status.success());
+    assert!(
+        !Command::new(CHECK)
+            .arg("x")
+            .output()
+            .unwrap()
+            .status
+            .success()
+    );
+}
