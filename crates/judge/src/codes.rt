@@ -36,12 +36,12 @@ pub fn code_good(code: [u8; 7]) -> bool
 pub fn same_code(a: [u8; 7], b: [u8; 7]) -> bool
     ensures { λ r. ⌜ r ≡ same a b ⌝ }
 {
-    let mut i = 0;
-    while i < 7 {
-        if a[i] != b[i] {
+    let mut at = 0;
+    while at < 7 {
+        if a[at] != b[at] {
             return false;
         }
-        i += 1;
+        at += 1;
     }
     true
 }

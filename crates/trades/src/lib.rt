@@ -41,16 +41,19 @@ fn party_refusal(b: Book, buyer: u8, seller: u8) -> u8
     requires { ⌜ good b ≡ true ⌝ }
     ensures { λ n. ⌜ n ≡ first (Rules.partyRefusals b buyer seller) ⌝ }
 {
+    let held = b.held;
+    let bought = buyer as usize;
+    let sold = seller as usize;
     if b.expired {
         return EXPIRED;
     }
-    if b.held <= (buyer as usize) {
-        return UNKNOWN_SECTION;
+    if held <= bought {
+        return UNKNOWN_SECTION; // the buyer
     }
-    if b.held <= (seller as usize) {
-        return UNKNOWN_SECTION;
+    if held <= sold {
+        return UNKNOWN_SECTION; // the seller
     }
-    if buyer == seller {
+    if bought == sold {
         return BUYER_IS_SELLER;
     }
     ACCEPTED

@@ -33,10 +33,10 @@ returns : tie.Need-returns Inv-loop μ-loop
 returns c =
     let start = c .before .before .before in
     let at = c .before .before .loop in
-    sym (at .inv .1 ∙ same-stop (has (start .args .t1) (at .i) 0 (omega (arith, long start))) (has (start .args .t2) (at .i) 0 (omega (arith, long start))) (c .if1 .taken))
+    sym (at .inv .1 ∙ same-stop (has (start .args .t1) (at .at) 0 (omega (arith, long start))) (has (start .args .t2) (at .at) 0 (omega (arith, long start))) (c .if1 .taken))
 
-add-i : tie.Need-add-i Inv-loop μ-loop
-add-i c = search needs
+add-at : tie.Need-add-at Inv-loop μ-loop
+add-at c = search needs
 
 loop-less : tie.Need-loop-less Inv-loop μ-loop
 loop-less c = search needs
@@ -45,12 +45,12 @@ loop-again : tie.Need-loop-again Inv-loop μ-loop
 loop-again c =
     let start = c .before .before .before in
     let at = c .before .before .loop in
-    (omega arith, at .inv .1 ∙ same-next (has (start .args .t1) (at .i) 0 (omega (arith, long start))) (has (start .args .t2) (at .i) 0 (omega (arith, long start))) (c .if1 .left))
+    (omega arith, at .inv .1 ∙ same-next (has (start .args .t1) (at .at) 0 (omega (arith, long start))) (has (start .args .t2) (at .at) 0 (omega (arith, long start))) (c .if1 .left))
 
 returns-2 : tie.Need-returns-2 Inv-loop μ-loop
 returns-2 c =
     let start = c .before .before in
-    sym (c .before .loop .inv .1 ∙ same-end (start .args .t1) (start .args .t2) (c .before .loop .i) (omega (arith, long start)) (omega (arith, long start)))
+    sym (c .before .loop .inv .1 ∙ same-end (start .args .t1) (start .args .t2) (c .before .loop .at) (omega (arith, long start)) (omega (arith, long start)))
 
 pub same-code-spec : {M : Type 1} → statement M
 same-code-spec =
@@ -62,7 +62,7 @@ same-code-spec =
     array-read-if1
     array-read-if1-2
     returns
-    add-i
+    add-at
     loop-less
     loop-again
     returns-2)
