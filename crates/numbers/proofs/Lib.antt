@@ -2,3 +2,5 @@ pub mod Tests
 pub mod Whole
 pub mod Sums
 pub mod Bytes
+pub mod Little
+pub mod Cells

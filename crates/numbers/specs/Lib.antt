@@ -1,3 +1,4 @@
 pub mod Whole
 pub mod Sums
 pub mod Bytes
+pub mod Little
