@@ -1,7 +1,7 @@
 -- A list of known length, cell by cell.
 use Prim.Native.Nat.{ℕ, zero, suc, _+_, _≤_, _<_}
 use native.Mathlib.Omega.{arith}
-use mathlib.Core.Path.{_≡_, refl, ap, ap₂, _∙_}
+use mathlib.Core.Path.{_≡_, refl, sym, ap, ap₂, _∙_}
 use mathlib.Core.List.{List, [], _∷_}
 use lib.ListN.{length, getD, take, drop, length-take, length-drop}
 use lib.Seq.{getD-take, getD-drop}
@@ -28,3 +28,9 @@ module _ {A : Type 0} where
   part-cells l d at count h =
       cells (take count (drop at l)) d count (simp (length-take, length-drop) (omega arith)) ∙
       table-same count _ _ (λ i k. getD-take count (drop at l) i d k ∙ getD-drop at l i d)
+
+  -- two lists have the same part where they have the same cells
+  pub part-same : (l m : List A) (d : A) (at count : ℕ) → at + count ≤ length l → at + count ≤ length m
+      → ((i : ℕ) → at ≤ i → i < at + count → getD l i d ≡ getD m i d) → take count (drop at l) ≡ take count (drop at m)
+  part-same l m d at count hl hm h =
+      part-cells l d at count hl ∙ table-same count _ _ (λ i k. h (at + i) (omega arith) (omega arith)) ∙ sym (part-cells m d at count hm)

@@ -1,13 +1,13 @@
 -- Numbers and their little-endian bytes are the same thing twice; a list of zero bytes is one list.
-use Prim.Native.Nat.{ℕ, zero, suc, _+_, _*_, _/_, _%_, _<_, _^_}
+use Prim.Native.Nat.{ℕ, zero, suc, _+_, _/_, _<_, _^_}
 use native.Mathlib.Nat.{div-lt-iff-lt-mul, pow-suc}
 use native.Mathlib.Omega.{arith}
 use mathlib.Core.Path.{_≡_, refl, ap, ap₂, _∙_}
 use mathlib.Core.Bool.{true, _&&_}
 use mathlib.Core.List.{List, [], _∷_}
 use lib.Dec.{eqb}
-use lib.ListN.{length, getD, drop, replicate}
-use lib.Seq.{drop-cons}
+use lib.ListN.{length, getD, take, drop, replicate}
+use lib.Seq.{drop-cons, getD-drop}
 use borrow.Author.Tests.{eqb-true}
 use Rattle.numbers.specs.Little.{bytesOf, numberOf, allZero}
 use Rattle.numbers.proofs.Tests.{and-left, and-right}
@@ -39,3 +39,13 @@ zero-bytes (b ∷ bs) h = ap₂ _∷_ (eqb-true b 0 (and-left (eqb b 0) (allZero
 pub zero-step : (bs : List ℕ) (i : ℕ) → i < length bs → allZero (drop i bs) ≡ (eqb (getD bs i 0) 0 && allZero (drop (suc i) bs))
 unfolding allZero
 zero-step bs i h = ap allZero (drop-cons bs i 0 h)
+
+-- a part of a list of bytes is one
+pub bytes-take : (count : ℕ) (bs : List ℕ) → Bytes bs → Bytes (take count bs)
+bytes-take zero bs h i = omega arith
+bytes-take (suc count) [] h i = omega arith
+bytes-take (suc count) (b ∷ bs) h zero = h 0
+bytes-take (suc count) (b ∷ bs) h (suc i) = bytes-take count bs (λ j. h (suc j)) i
+
+pub bytes-drop : (at : ℕ) (bs : List ℕ) → Bytes bs → Bytes (drop at bs)
+bytes-drop at bs h i = rw (getD-drop at bs i 0) (h (at + i))
