@@ -3,3 +3,5 @@ pub mod Lists
 pub mod Whole
 pub mod Sums
 pub mod Bytes
+pub mod Little
+pub mod Cells

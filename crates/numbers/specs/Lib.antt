@@ -2,3 +2,4 @@ pub mod Whole
 pub mod Lists
 pub mod Sums
 pub mod Bytes
+pub mod Little
