@@ -3,7 +3,7 @@ use Prim.Native.Nat.{ℕ, zero, suc, _+_, _*_, _≤_, _<_, _^_, zero-le}
 use native.Mathlib.Nat.{zero-add, add-assoc, add-comm, not-suc-le-zero, le-of-suc-le-suc, mul-le-mul-left}
 use native.Mathlib.Omega.{arith}
 use mathlib.Core.Path.{_≡_, refl, sym, ap, _∙_}
-use mathlib.Core.List.{List, [], _∷_, _++_, map, map-map}
+use mathlib.Core.List.{List, [], _∷_, _++_, map, map-append, map-map}
 use lib.ListN.{length, getD, set, drop, drop-of-length-le, length-map}
 use lib.IntN.{ℤ, pos, negℤ, natAbs, _+ℤ_, _-ℤ_, _*ℤ_, +ℤ-idl, +ℤ-idr, +ℤ-assoc, +ℤ-comm, negℤ-+ℤ, zero-*ℤ}
 use mir.Syntax.{w64}
@@ -70,6 +70,11 @@ module _ {A : Type 0} (f : A → ℤ) where
       let was = f (getD xs i d) in
       let moves : new +ℤ was ≡ old +ℤ (was +ℤ z) = total-read-set _+ℤ_ (pos 0) wholes f xs i y d h ∙ ap (λ (t : ℤ). old +ℤ t) e in
       ext _ _ (omega (arith, ap plus moves, ap minus moves, sum new was, sum was z, sum old (was +ℤ z), sum old z))
+
+  -- one entry more, of which 0 is read
+  pub total-more : (xs : List A) (y : A) → f y ≡ pos 0 → totalℤ (map f (xs ++ (y ∷ []))) ≡ totalℤ (map f xs)
+  unfolding gathered
+  total-more xs y e = rw (map-append f xs (y ∷ []), total-append _+ℤ_ (pos 0) wholes (map f xs) (f y ∷ []), e) (+ℤ-idr _)
 
   -- each is multiplied
   pub total-product : (v : ℕ) (xs : List A) → totalℤ (map (λ (x : A). f x *ℤ pos v) xs) ≡ totalℤ (map f xs) *ℤ pos v
