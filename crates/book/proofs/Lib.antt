@@ -1,5 +1,6 @@
 pub mod Accepted
 pub mod Answers
+pub mod Effects
 pub mod Good
 pub mod Held
 pub mod Kept

@@ -1,5 +1,5 @@
 -- Tests over the entries of a list that changes: at one place, by one entry at its end, or in every entry.
-use Prim.Native.Nat.{ℕ, zero, suc, _+_, _<_}
+use Prim.Native.Nat.{ℕ, zero, suc, _+_, _-_, _≤_, _<_}
 use native.Mathlib.Nat.{not-suc-le-zero, le-of-suc-le-suc}
 use native.Mathlib.Numerals.{add-one}
 use native.Mathlib.Omega.{arith}
@@ -7,7 +7,7 @@ use mathlib.Core.Path.{_≡_, refl, sym, ap, ap₂, _∙_}
 use mathlib.Core.Bool.{Bool, true, false, not, _&&_, _||_}
 use mathlib.Core.List.{List, [], _∷_, _++_, map}
 use lib.ListN.{length, getD, set, take, drop, replicate}
-use lib.Seq.{take-suc-set, drop-set-lt, drop-drop}
+use lib.Seq.{take-suc-set, drop-set-lt, drop-drop, getD-drop}
 use borrow.Author.Tests.{not-true}
 use Rattle.numbers.specs.Lists.{every, some, apart}
 use Rattle.numbers.proofs.Tests.{both, together, or-left, or-right}
@@ -101,3 +101,13 @@ module _ {A : Type 0} (xs : List A) (n : ℕ) (y : A) (room : n < length xs) whe
 
   pub drop-more : drop (n + 1) (set xs n y) ≡ drop 1 (drop n xs)
   drop-more = drop-set-lt (n + 1) xs n y (omega arith) ∙ sym (drop-drop 1 n xs)
+
+-- two lists that are the same from n on have the same entries there
+pub same-rest : {A : Type 0} (xs ys : List A) (n i : ℕ) (d : A) → drop n xs ≡ drop n ys → n ≤ i → getD xs i d ≡ getD ys i d
+same-rest xs ys n i d e h =
+    let at : i ≡ n + (i - n) = omega arith in
+    ap (λ (k : ℕ). getD xs k d) at
+    ∙ sym (getD-drop n xs (i - n) d)
+    ∙ ap (λ (zs : List _). getD zs (i - n) d) e
+    ∙ getD-drop n ys (i - n) d
+    ∙ ap (λ (k : ℕ). getD ys k d) (sym at)

@@ -54,15 +54,18 @@ module _ (b : Book) (price : ℕ) (book : Good b) where
   unfolding afterSession
   settled-held = take-at (settledSections b price) (drop (b .held) (b .sections)) (b .held) front
 
+  pub settled-rest : drop (b .held) (afterSession b price .sections) ≡ drop (b .held) (b .sections)
+  unfolding afterSession
+  settled-rest = drop-at (settledSections b price) (drop (b .held) (b .sections)) (b .held) front
+
   all-settled : price ≤ 10_000_000 → Changed b (afterSession b price .sections) 0 (pos 0) (pos 0)
   unfolding afterSession settled
   all-settled most =
       let v = valueAt b price in
-      let rest = drop (b .held) (b .sections) in
       let held = heldSections b in
       record {
         places = length-front (b .sections) (settledSections b price) (b .held) (length-map held (settled v)) ∙ book .section-places;
-        rest = drop-at (settledSections b price) rest (b .held) front;
+        rest = settled-rest;
         codes = ap (map codeOf) settled-held ∙ map-map codeOf (settled v) held;
         good = ap (every (sectionGood 0)) settled-held ∙ sym (every-read (settled v) (sectionGood 0) held) ∙ every-weaker (sectionGood (b .trades)) (λ (s : Section). sectionGood 0 (settled v s)) (settled-good v (b .trades) (value-within (book .k .most) most)) held (book .sections);
         positions-sum = ap (λ (xs : List Section). totalℤ (map positionOf xs)) settled-held ∙ ap totalℤ (map-map positionOf (settled v) held) ∙ book .positions;
