@@ -1,5 +1,6 @@
 pub mod Accepted
 pub mod Answers
+pub mod Blank
 pub mod Effects
 pub mod Good
 pub mod Held
@@ -7,3 +8,4 @@ pub mod Kept
 pub mod Lots
 pub mod Margins
 pub mod NoBook
+pub mod Telescope

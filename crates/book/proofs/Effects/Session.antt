@@ -2,10 +2,12 @@
 use Prim.Native.Nat.{ℕ, _≤_, _<_}
 use native.Mathlib.Omega.{arith}
 use mathlib.Core.Path.{_≡_, refl, sym, ap, _∙_}
+use mathlib.Core.Logic.{⊎-elim}
 use mathlib.Core.List.{List, [], map}
-use lib.ListN.{getD}
+use lib.ListN.{getD, length-map, List·getD-eq-default}
 use lib.Seq.{getD-take}
 use lib.IntN.{pos}
+use Rattle.numbers.proofs.Tests.{below-or-not}
 use Rattle.numbers.proofs.Changed.{read-at, same-rest}
 use Rattle.rules.specs.declared.book.Book.{Book}
 use Rattle.rules.specs.declared.book.Section.{Section}
@@ -15,7 +17,7 @@ use Rattle.rules.specs.Calls.Session.{settled, marginOf, margins, following, af
 use Rattle.book.proofs.Good.{Good}
 use Rattle.book.proofs.Held.{held-length}
 use Rattle.book.proofs.Kept.Session.{settled-held, settled-rest}
-use Rattle.book.proofs.Effects.Same.{SameTerms, SameNotices, SameHolder, holder-by}
+use Rattle.book.proofs.Effects.Same.{SameTerms, SameNotices, SameHolder}
 
 -- entry i of what f makes of the sections held
 held-read : {A : Type 0} (f : Section → A) (b : Book) → Good b → (i : ℕ) (d : A) → i < b .held → getD (map f (heldSections b)) i d ≡ f (sectionAt b i)
@@ -40,22 +42,38 @@ module _ (b : Book) (price : ℕ) (book : Good b) where
   unfolding margins
   margin-at i h = held-read (marginOf (valueAt b price)) b book i (pos 0) h
 
-  -- "basis becomes position·V(price)", and nothing else of a section changes
-  pub session-position : (i : ℕ) → i < b .held → positionOf (sectionAt (afterSession b price) i) ≡ positionOf (sectionAt b i)
-  unfolding settled
-  session-position i h = ap positionOf (session-section i h)
+  -- past the sections held there is none
+  pub margin-past : (i : ℕ) → b .held ≤ i → getD (margins b price) i (pos 0) ≡ pos 0
+  unfolding margins
+  margin-past i h =
+      List·getD-eq-default (map (marginOf (valueAt b price)) (heldSections b)) (pos 0)
+      (omega (arith, length-map (heldSections b) (marginOf (valueAt b price)), held-length b (book .section-places) (book .held)))
 
+  -- "basis becomes position·V(price)", and nothing else of any section changes
   pub session-basis : (i : ℕ) → i < b .held → basisOf (sectionAt (afterSession b price) i) ≡ worth (sectionAt b i .position) (valueAt b price) .0
   unfolding settled
   session-basis i h = ap basisOf (session-section i h)
 
-  pub session-holder : (i : ℕ) → i < b .held → SameHolder (sectionAt (afterSession b price) i) (sectionAt b i)
-  unfolding settled
-  session-holder i h = holder-by (session-section i h) (record { settlement = refl; code = refl; participant = refl; seller = refl })
+  pub session-read : {A : Type 0} (f : Section → A) → ((s : Section) → f (settled (valueAt b price) s) ≡ f s) → (i : ℕ) → f (sectionAt (afterSession b price) i) ≡ f (sectionAt b i)
+  session-read f e i = ⊎-elim (λ h. ap f (session-section i h) ∙ e (sectionAt b i)) (λ h. ap f (session-rest i h)) (below-or-not i (b .held))
 
-  pub session-met : (i : ℕ) → i < b .held → sectionAt (afterSession b price) i .met ≡ sectionAt b i .met
+  pub session-position : (i : ℕ) → positionOf (sectionAt (afterSession b price) i) ≡ positionOf (sectionAt b i)
   unfolding settled
-  session-met i h = ap (λ (s : Section). s .met) (session-section i h)
+  session-position = session-read positionOf (λ s. refl)
+
+  pub session-holder : (i : ℕ) → SameHolder (sectionAt (afterSession b price) i) (sectionAt b i)
+  unfolding settled
+  session-holder i =
+      record {
+        settlement = session-read (λ (s : Section). s .settlement) (λ s. refl) i;
+        code = session-read (λ (s : Section). s .code) (λ s. refl) i;
+        participant = session-read (λ (s : Section). s .participant) (λ s. refl) i;
+        seller = session-read (λ (s : Section). s .seller) (λ s. refl) i;
+      }
+
+  pub session-met : (i : ℕ) → sectionAt (afterSession b price) i .met ≡ sectionAt b i .met
+  unfolding settled
+  session-met = session-read (λ (s : Section). s .met) (λ s. refl)
 
 -- of the book itself only the session and the count of trades change
 module _ (b : Book) (price : ℕ) where

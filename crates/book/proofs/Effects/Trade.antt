@@ -1,12 +1,12 @@
 -- What a trade does, by section number.
-use Prim.Native.Nat.{ℕ, _+_}
+use Prim.Native.Nat.{ℕ, _+_, _≤_, zero-le}
 use mathlib.Core.Path.{_≡_, refl, sym, ap, _∙_}
 use mathlib.Core.Bool.{Bool, true, false}
 use mathlib.Core.List.{[]}
 use lib.Dec.{eqb}
 use lib.ListN.{set}
 use lib.Seq.{lt-length-set, getD-set-same, getD-set-other}
-use lib.IntN.{ℤ, pos, negℤ, _+ℤ_, +ℤ-idr, zero-*ℤ}
+use lib.IntN.{ℤ, pos, negℤ, natAbs, _+ℤ_, +ℤ-idr, zero-*ℤ}
 use borrow.Author.Tests.{eqb-true, eqb-false}
 use Rattle.rules.specs.declared.book.Book.{Book}
 use Rattle.rules.specs.declared.book.Section.{Section}
@@ -17,6 +17,7 @@ use Rattle.rules.specs.Book.{positionOf, basisOf, sectionAt, sectionOfNoughts, 
 use Rattle.rules.specs.Calls.Trade.{moved, traded}
 use Rattle.book.proofs.Accepted.{NewTrade}
 use Rattle.book.proofs.Held.{held-place}
+use Rattle.book.proofs.Lots.{sold-size}
 use Rattle.book.proofs.Effects.Same.{SameTerms, SameNotices, SameHolder, holder-by}
 
 -- the lots of a trade on the side of section i: bought plus, sold minus, none where it is neither party
@@ -27,6 +28,15 @@ side lots false false = record { 0 = pos 0 }
 
 unfoldable pub sideLots : ℕ → ℕ → ℕ → ℕ → Lots
 sideLots buyer seller lots i = side lots (eqb i buyer) (eqb i seller)
+
+pub side-within : (buyer seller lots : ℕ) → lots ≤ 10_000 → (i : ℕ) → natAbs (sideLots buyer seller lots i .0) ≤ 10_000
+unfolding sideLots
+side-within buyer seller lots few i = go (eqb i buyer) (eqb i seller)
+  where
+    go : (is-buyer is-seller : Bool) → natAbs (side lots is-buyer is-seller .0) ≤ 10_000
+    go true is-seller = few
+    go false true = sold-size lots few
+    go false false = zero-le
 
 -- no lots move nothing
 moved-none : (s : Section) (v : Kopecks) → moved s (record { 0 = pos 0 }) v ≡ s
