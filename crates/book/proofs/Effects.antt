@@ -1,3 +1,4 @@
+-- What each call does, by section number, and what it leaves as it was.
 pub mod Same
 pub mod Section
 pub mod Trade

@@ -9,9 +9,9 @@ use Rattle.rules.specs.declared.book.Section.{Section}
 use Rattle.rules.specs.Book.{good, sectionAt, sectionOfNoughts}
 use Rattle.rules.specs.Calls.Condition.{conditionNumber, marked, afterCondition}
 use Rattle.book.proofs.Accepted.{condition}
-use Rattle.book.proofs.Good.{SectionGood, section-test, test}
+use Rattle.book.proofs.Good.{SectionGood, test}
 use Rattle.book.proofs.Held.{held-good}
-use Rattle.book.proofs.Kept.Sections.{Moves, unchanged, one-changed, restated-good}
+use Rattle.book.proofs.Kept.Sections.{Moves, still-good, unchanged, one-changed, restated-good}
 
 -- only the mark changes
 marked-moves : (trades : ℕ) (s : Section) (met : Bool) → SectionGood trades s → Moves trades s (marked s met) (pos 0) (pos 0)
@@ -19,13 +19,7 @@ unfolding marked
 marked-moves trades s met was =
     record {
       code = refl;
-      good = section-test trades (marked s met) (record {
-        settlement = was .settlement;
-        code-length = was .code-length;
-        code-bytes = was .code-bytes;
-        position = was .position;
-        basis = was .basis;
-      });
+      good = still-good was trades (marked s met) refl refl (was .position) (was .basis);
       position = sym (+ℤ-idr _);
       basis = sym (+ℤ-idr _);
     }

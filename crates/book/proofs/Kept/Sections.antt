@@ -7,7 +7,7 @@ use mathlib.Core.Bool.{true}
 use mathlib.Core.List.{List, map}
 use lib.ListN.{length, getD, set, take, drop, length-set}
 use lib.Seq.{take-set-lt, drop-set-lt, getD-take, map-set-same, length-take-le}
-use lib.IntN.{ℤ, pos, _+ℤ_}
+use lib.IntN.{ℤ, pos, natAbs, _+ℤ_}
 use Rattle.numbers.specs.Lists.{every, apart}
 use Rattle.numbers.specs.Sums.{totalℤ}
 use Rattle.numbers.specs.Bytes.{same}
@@ -16,8 +16,8 @@ use Rattle.numbers.proofs.Sums.{total-moved}
 use Rattle.rules.specs.declared.book.Book.{Book}
 use Rattle.rules.specs.declared.book.Section.{Section}
 use Rattle.rules.specs.declared.book.LastSession.{LastSession}
-use Rattle.rules.specs.Book.{positionOf, basisOf, lastGood, sectionGood, sectionBlank, heldSections}
-use Rattle.book.proofs.Good.{Good, section-facts, section-test}
+use Rattle.rules.specs.Book.{positionOf, basisOf, basisMost, lastGood, sectionGood, sectionBlank, heldSections}
+use Rattle.book.proofs.Good.{Good, SectionGood, section-facts, section-test}
 
 abbrev pub codeOf : Section → List ℕ
 codeOf s = s .code
@@ -71,18 +71,23 @@ restated-good b sections last price trades book changed last-good few =
       notices-blank = book .notices-blank;
     }
 
--- a good section stays good as trades are counted
+-- a section with the settlement and section code of a good one is good where its position and basis are within their limits
+pub still-good : {trades : ℕ} {s : Section} → SectionGood trades s → (more : ℕ) (t : Section) → t .settlement ≡ s .settlement → t .code ≡ s .code → natAbs (positionOf t) ≤ 1_000_000 → natAbs (basisOf t) ≤ basisMost more → sectionGood more t ≡ true
+still-good was more t settlement code position basis =
+    section-test more t
+    (record {
+      settlement = rw settlement (was .settlement);
+      code-length = rw code (was .code-length);
+      code-bytes = rw code (was .code-bytes);
+      position = position;
+      basis = basis;
+    })
+
+-- as trades are counted
 later : (trades more : ℕ) → trades ≤ more → (s : Section) → sectionGood trades s ≡ true → sectionGood more s ≡ true
 later trades more h s e =
     let was = section-facts trades s e in
-    section-test more s
-    (record {
-      settlement = was .settlement;
-      code-length = was .code-length;
-      code-bytes = was .code-bytes;
-      position = was .position;
-      basis = omega (arith, was .basis);
-    })
+    still-good was more s refl refl (was .position) (omega (arith, was .basis))
 
 -- no section is changed yet
 pub unchanged : (b : Book) → Good b → (trades : ℕ) → b .trades ≤ trades → Changed b (b .sections) trades (pos 0) (pos 0)

@@ -1,7 +1,7 @@
 -- An accepted session leaves a good book.
 use Prim.Native.Nat.{ℕ, _≤_}
 use native.Mathlib.Omega.{arith}
-use mathlib.Core.Path.{_≡_, sym, ap, _∙_}
+use mathlib.Core.Path.{_≡_, refl, sym, ap, _∙_}
 use mathlib.Core.Bool.{true}
 use mathlib.Core.List.{List, map, map-map}
 use lib.ListN.{length, drop, length-map}
@@ -19,23 +19,17 @@ use Rattle.rules.specs.declared.units.Kopecks.{Kopecks}
 use Rattle.rules.specs.Book.{good, lastGood, positionOf, basisOf, sectionGood, heldSections, valueAt}
 use Rattle.rules.specs.Calls.Session.{sessionNumber, following, settled, afterSession}
 use Rattle.book.proofs.Accepted.{session}
-use Rattle.book.proofs.Good.{Between, Good, section-facts, section-test, between-test, test}
+use Rattle.book.proofs.Good.{Between, Good, section-facts, between-test, test}
 use Rattle.book.proofs.Held.{held-length}
 use Rattle.book.proofs.Margins.{worths-sum}
-use Rattle.book.proofs.Kept.Sections.{Changed, codeOf, restated-good}
+use Rattle.book.proofs.Kept.Sections.{Changed, codeOf, still-good, restated-good}
 
 -- a basis of position·V is within its first limit
 settled-good : (v : Kopecks) (trades : ℕ) → natAbs (v .0) ≤ 1_000_000_000 → (s : Section) → sectionGood trades s ≡ true → sectionGood 0 (settled v s) ≡ true
 unfolding settled
 settled-good v trades small s e =
     let was = section-facts trades s e in
-    section-test 0 (settled v s) (record {
-      settlement = was .settlement;
-      code-length = was .code-length;
-      code-bytes = was .code-bytes;
-      position = was .position;
-      basis = worth-within (s .position) v (was .position) small;
-    })
+    still-good was 0 (settled v s) refl refl (was .position) (worth-within (s .position) v (was .position) small)
 
 last-following : (last : LastSession) (price : ℕ) → Between 1 10_000_000 price → lastGood (following last) price ≡ true
 last-following None price h = between-test h
@@ -63,11 +57,12 @@ module _ (b : Book) (price : ℕ) (book : Good b) where
   all-settled most =
       let v = valueAt b price in
       let held = heldSections b in
+      let sound = settled-good v (b .trades) (value-within (book .k .most) most) in
       record {
         places = length-front (b .sections) (settledSections b price) (b .held) (length-map held (settled v)) ∙ book .section-places;
         rest = settled-rest;
         codes = ap (map codeOf) settled-held ∙ map-map codeOf (settled v) held;
-        good = ap (every (sectionGood 0)) settled-held ∙ sym (every-read (settled v) (sectionGood 0) held) ∙ every-weaker (sectionGood (b .trades)) (λ (s : Section). sectionGood 0 (settled v s)) (settled-good v (b .trades) (value-within (book .k .most) most)) held (book .sections);
+        good = ap (every (sectionGood 0)) settled-held ∙ sym (every-read (settled v) (sectionGood 0) held) ∙ every-weaker (sectionGood (b .trades)) (λ (s : Section). sectionGood 0 (settled v s)) sound held (book .sections);
         positions-sum = ap (λ (xs : List Section). totalℤ (map positionOf xs)) settled-held ∙ ap totalℤ (map-map positionOf (settled v) held) ∙ book .positions;
         bases-sum = ap (λ (xs : List Section). totalℤ (map basisOf xs)) settled-held ∙ ap totalℤ (map-map basisOf (settled v) held) ∙ worths-sum b price book;
       }
