@@ -38,3 +38,7 @@ held-good b book i h =
 -- its basis is within the limit of a book with all its trades
 pub held-basis : (b : Book) → Good b → (i : ℕ) → i < b .held → natAbs (basisOf (sectionAt b i)) ≤ 21_000_000_000_000_000
 held-basis b book i h = omega (arith, held-good b book i h .basis, book .trades)
+
+-- a section held has a place
+pub held-place : (b : Book) → Good b → (i : ℕ) → i < b .held → i < length (b .sections)
+held-place b book i h = omega (arith, book .held, book .section-places)

@@ -1,5 +1,12 @@
 pub mod Accepted
 pub mod Answers
+pub mod Blank
+pub mod Effects
 pub mod Good
 pub mod Held
+pub mod Kept
 pub mod Lots
+pub mod Margins
+pub mod Net
+pub mod NoBook
+pub mod Telescope

@@ -10,7 +10,7 @@ use lib.ListN.{length, drop, drop-of-length-le}
 use borrow.Author.Tests.{ltb-true, ltb-false, eqb-true, lt-ltb, le-ltb, eq-eqb, ne-eqb}
 use Rattle.numbers.specs.Bytes.{same, before}
 use Rattle.numbers.proofs.Lists.{Has, from-here}
-use Rattle.numbers.proofs.Tests.{and-left, and-right, or-cases, or-left, or-right}
+use Rattle.numbers.proofs.Tests.{eqb-sym, and-left, and-right, or-cases, or-left, or-right}
 
 pub same-eq : (xs ys : List ℕ) → same xs ys ≡ true → xs ≡ ys
 unfolding same
@@ -24,6 +24,13 @@ pub same-self : (xs : List ℕ) → same xs xs ≡ true
 unfolding same
 same-self [] = refl
 same-self (x ∷ xs) = simp (eq-eqb x x refl, same-self xs)
+
+pub same-sym : (xs ys : List ℕ) → same xs ys ≡ same ys xs
+unfolding same
+same-sym [] [] = refl
+same-sym [] (y ∷ ys) = refl
+same-sym (x ∷ xs) [] = refl
+same-sym (x ∷ xs) (y ∷ ys) = ap₂ _&&_ (eqb-sym x y) (same-sym xs ys)
 
 -- what the order's test says at the first bytes x and y, where t is the test on the rest
 split : (x y : ℕ) (t : Bool) → (ltb x y || eqb x y && t) ≡ true → (x < y) ⊎ ((x ≡ y) × (t ≡ true))

@@ -3,15 +3,16 @@ use Prim.Native.Nat.{ℕ, zero, suc, _+_, _*_, _≤_, _<_, _^_, zero-le}
 use native.Mathlib.Nat.{zero-add, add-assoc, add-comm, not-suc-le-zero, le-of-suc-le-suc, mul-le-mul-left}
 use native.Mathlib.Omega.{arith}
 use mathlib.Core.Path.{_≡_, refl, sym, ap, _∙_}
-use mathlib.Core.List.{List, [], _∷_, _++_, map}
-use lib.ListN.{length, getD, set, drop, drop-of-length-le}
-use lib.IntN.{ℤ, pos, natAbs, _+ℤ_, +ℤ-idl, +ℤ-idr, +ℤ-assoc, +ℤ-comm}
+use mathlib.Core.List.{List, [], _∷_, _++_, map, map-append, map-map}
+use lib.ListN.{length, getD, set, drop, drop-of-length-le, length-map}
+use lib.IntN.{ℤ, pos, negℤ, natAbs, _+ℤ_, _-ℤ_, _*ℤ_, +ℤ-idl, +ℤ-idr, +ℤ-assoc, +ℤ-comm, negℤ-+ℤ, zero-*ℤ}
 use mir.Syntax.{w64}
 use mir.Val.{SFits, toZ, ofZ}
 use mir.Facts.{toZ-ofZ}
 use Rattle.numbers.specs.Sums.{gathered, totalℤ}
 use Rattle.numbers.proofs.Lists.{Has, from-here}
-use Rattle.numbers.proofs.Whole.{sum, size, sfits-size}
+use Rattle.numbers.proofs.Changed.{read-set, read-at}
+use Rattle.numbers.proofs.Whole.{plus, minus, ext, sum, sum-product, size, sfits-size}
 
 -- what a sum needs of its addition
 pub record Addition {A : Type 0} (join : A → A → A) (none : A) : Type 0 where
@@ -49,11 +50,43 @@ module _ {A : Type 0} (join : A → A → A) (none : A) (add : Addition join non
   total-set (x ∷ xs) zero y h = add .assoc _ _ _ ∙ add .comm _ _ ∙ ap (λ (r : A). join r y) (add .comm _ _)
   total-set (x ∷ xs) (suc i) y h = add .assoc _ _ _ ∙ ap (join x) (total-set xs i y (le-of-suc-le-suc h)) ∙ sym (add .assoc _ _ _)
 
+  -- of what f reads of the entries, one of them changed
+  pub total-read-set : {B : Type 0} (f : B → A) (xs : List B) (i : ℕ) (y d : B) → i < length xs → join (gathered join none (map f (set xs i y))) (f (getD xs i d)) ≡ join (gathered join none (map f xs)) (f y)
+  total-read-set f xs i y d h = rw (read-set f xs i y, ← read-at f xs i d none h) (total-set (map f xs) i (f y) (omega (arith, length-map xs f)))
+
 -- a map from one addition to another that keeps sums may be taken before or after summing
 pub total-kept : {A B : Type 0} (join : A → A → A) (none : A) (join′ : B → B → B) (none′ : B) (h : A → B) → h none ≡ none′ → ((x y : A) → h (join x y) ≡ join′ (h x) (h y)) → (xs : List A) → gathered join′ none′ (map h xs) ≡ h (gathered join none xs)
 unfolding gathered
 total-kept join none join′ none′ h e k [] = sym e
 total-kept join none join′ none′ h e k (x ∷ xs) = ap (join′ (h x)) (total-kept join none join′ none′ h e k xs) ∙ sym (k x (gathered join none xs))
+
+-- sums of whole numbers that f reads of the entries
+module _ {A : Type 0} (f : A → ℤ) where
+  -- one entry is changed so that z more is read
+  pub total-moved : (xs : List A) (i : ℕ) (y d : A) (z : ℤ) → i < length xs → f y ≡ f (getD xs i d) +ℤ z → totalℤ (map f (set xs i y)) ≡ totalℤ (map f xs) +ℤ z
+  total-moved xs i y d z h e =
+      let new = totalℤ (map f (set xs i y)) in
+      let old = totalℤ (map f xs) in
+      let was = f (getD xs i d) in
+      let moves : new +ℤ was ≡ old +ℤ (was +ℤ z) = total-read-set _+ℤ_ (pos 0) wholes f xs i y d h ∙ ap (λ (t : ℤ). old +ℤ t) e in
+      ext _ _ (omega (arith, ap plus moves, ap minus moves, sum new was, sum was z, sum old (was +ℤ z), sum old z))
+
+  -- one entry more, of which 0 is read
+  pub total-more : (xs : List A) (y : A) → f y ≡ pos 0 → totalℤ (map f (xs ++ (y ∷ []))) ≡ totalℤ (map f xs)
+  unfolding gathered
+  total-more xs y e = rw (map-append f xs (y ∷ []), total-append _+ℤ_ (pos 0) wholes (map f xs) (f y ∷ []), e) (+ℤ-idr _)
+
+  -- each is multiplied
+  pub total-product : (v : ℕ) (xs : List A) → totalℤ (map (λ (x : A). f x *ℤ pos v) xs) ≡ totalℤ (map f xs) *ℤ pos v
+  total-product v xs =
+      sym (ap totalℤ (map-map (λ (z : ℤ). z *ℤ pos v) f xs))
+      ∙ total-kept _+ℤ_ (pos 0) _+ℤ_ (pos 0) (λ (z : ℤ). z *ℤ pos v) (zero-*ℤ (pos v)) (λ (x y : ℤ). sum-product x y v) (map f xs)
+
+  -- another reading is taken off
+  pub total-difference : (g : A → ℤ) (xs : List A) → totalℤ (map (λ (x : A). f x -ℤ g x) xs) ≡ totalℤ (map f xs) -ℤ totalℤ (map g xs)
+  total-difference g xs =
+      total-map _+ℤ_ (pos 0) wholes f (λ (x : A). negℤ (g x)) xs
+      ∙ ap (λ (z : ℤ). totalℤ (map f xs) +ℤ z) (sym (ap totalℤ (map-map negℤ g xs)) ∙ total-kept _+ℤ_ (pos 0) _+ℤ_ (pos 0) negℤ refl negℤ-+ℤ (map g xs))
 
 -- a loop's sum of a reading of the entries, held as bits: after i entries it makes up the whole with what is left, and is
 -- within i times a limit

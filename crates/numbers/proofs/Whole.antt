@@ -102,6 +102,10 @@ sum-product x y v =
       product (x +ℤ y) v,
     ))
 
+-- and over a change of sign
+pub negated-product : (z : ℤ) (v : ℕ) → negℤ z *ℤ pos v ≡ negℤ (z *ℤ pos v)
+negated-product z v = ext _ _ (omega (arith, negated z, negated (z *ℤ pos v), product z v, product (negℤ z) v, ap (λ (n : ℕ). n * v) (negated z .0), ap (λ (n : ℕ). n * v) (negated z .1)))
+
 -- the machine's tests of order, as tests on the sides
 pub leZ-sides : (x y : ℤ) → leZ x y ≡ leb (plus x + minus y) (plus y + minus x)
 leZ-sides (pos a) (pos b) = simp add-zero

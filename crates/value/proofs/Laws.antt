@@ -4,8 +4,8 @@ use native.Mathlib.Nat.{div-zero, div-add-mod', div-eq-of-lt-le, div-mul-le-self
 use native.Mathlib.Omega.{arith}
 use lib.Dec.{lit<}
 use mathlib.Core.Path.{_≡_, refl, ap}
-use lib.IntN.{natAbs}
-use Rattle.numbers.proofs.Whole.{product-within}
+use lib.IntN.{ℤ, negℤ, natAbs}
+use Rattle.numbers.proofs.Whole.{product-within, negated-product}
 use Rattle.rules.specs.declared.units.Kopecks.{Kopecks}
 use Rattle.rules.specs.declared.units.Lots.{Lots}
 use Rattle.rules.specs.Units.{worth}
@@ -57,3 +57,8 @@ worth-within lots v h k = product-within (lots .0) (v .0) h k
 pub value-within : {k p : ℕ} → k ≤ 10_000_000 → p ≤ 10_000_000 → natAbs (valueOf k p .0) ≤ 1_000_000_000
 unfolding valueOf
 value-within hk hp = value-limit hk hp
+
+-- lots sold are worth what lots bought are, with the other sign
+pub worth-sold : (lots : ℤ) (k p : ℕ) → worth (record { 0 = negℤ lots }) (valueOf k p) .0 ≡ negℤ (worth (record { 0 = lots }) (valueOf k p) .0)
+unfolding worth valueOf
+worth-sold lots k p = negated-product lots (value k p)

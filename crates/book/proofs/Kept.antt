@@ -1,0 +1,51 @@
+-- Whatever a call's number, the book in its answer is good if the book that it was given is. That an accepted call leaves
+-- a good book is shown in the module of each call.
+use Prim.Native.Nat.{ℕ}
+use mathlib.Core.Path.{_≡_, refl}
+use mathlib.Core.Bool.{Bool, true, false}
+use mathlib.Core.List.{List}
+use lib.Dec.{eqb}
+use borrow.Author.Tests.{eqb-true}
+use Rattle.rules.specs.declared.book.Book.{Book}
+use Rattle.rules.specs.Book.{good}
+use Rattle.rules.specs.Calls.{handedOut}
+use Rattle.rules.specs.Calls.Section.{sectionAnswer}
+use Rattle.rules.specs.Calls.Trade.{tradeAnswer}
+use Rattle.rules.specs.Calls.Session.{sessionAnswer}
+use Rattle.rules.specs.Calls.Condition.{conditionAnswer}
+use Rattle.rules.specs.Calls.Notice.{noticeAnswer}
+pub mod Sections
+pub mod Opening
+pub mod Section
+pub mod Trade
+pub mod Session
+pub mod Condition
+pub mod Notice
+
+-- a refused call hands out the same book
+answered : (number : ℕ) (new old : Book) → (number ≡ 0 → good new ≡ true) → good old ≡ true → good (handedOut number new old) ≡ true
+answered number new old kept was = go (eqb number 0) refl
+  where
+    go : (t : Bool) → eqb number 0 ≡ t → good (elim t [ true ↦ new | false ↦ old ]) ≡ true
+    go true e = kept (eqb-true number 0 e)
+    go false e = was
+
+pub section-answered : (b : Book) (settlement : ℕ) (code : List ℕ) (participant : ℕ) (seller : Bool) → good b ≡ true → good (sectionAnswer b settlement code participant seller .book) ≡ true
+unfolding sectionAnswer
+section-answered b settlement code participant seller = answered _ _ b (Section.section-kept b settlement code participant seller)
+
+pub trade-answered : (b : Book) (buyer seller price lots : ℕ) → good b ≡ true → good (tradeAnswer b buyer seller price lots .book) ≡ true
+unfolding tradeAnswer
+trade-answered b buyer seller price lots = answered _ _ b (Trade.trade-kept b buyer seller price lots)
+
+pub session-answered : (b : Book) (price room : ℕ) → good b ≡ true → good (sessionAnswer b price room .book) ≡ true
+unfolding sessionAnswer
+session-answered b price room = answered _ _ b (Session.session-kept b price room)
+
+pub condition-answered : (b : Book) (i : ℕ) (met : Bool) → good b ≡ true → good (conditionAnswer b i met .book) ≡ true
+unfolding conditionAnswer
+condition-answered b i met = answered _ _ b (Condition.condition-kept b i met)
+
+pub notice-answered : (b : Book) (i elevator lots : ℕ) → good b ≡ true → good (noticeAnswer b i elevator lots .book) ≡ true
+unfolding noticeAnswer
+notice-answered b i elevator lots = answered _ _ b (Notice.notice-kept b i elevator lots)
