@@ -39,10 +39,22 @@ fn answered(name: &[u8], a: Answer) -> Book {
 }
 
 fn with_sections(b: Book) -> Book {
-    let one = answered(b"section", sections::open_section(b, 1, *b"A000001", 1, false));
-    let two = answered(b"section", sections::open_section(one, 1, *b"A000002", 2, true));
-    let three = answered(b"section", sections::open_section(two, 2, *b"B000001", 3, true));
-    answered(b"section", sections::open_section(three, 3, *b"C000001", 4, false))
+    let one = answered(
+        b"section",
+        sections::open_section(b, 1, *b"A000001", 1, false),
+    );
+    let two = answered(
+        b"section",
+        sections::open_section(one, 1, *b"A000002", 2, true),
+    );
+    let three = answered(
+        b"section",
+        sections::open_section(two, 2, *b"B000001", 3, true),
+    );
+    answered(
+        b"section",
+        sections::open_section(three, 3, *b"C000001", 4, false),
+    )
 }
 
 fn with_trades(b: Book) -> Book {
@@ -53,7 +65,10 @@ fn with_trades(b: Book) -> Book {
 
 fn with_session(b: Book) -> Book {
     let mut margins = [0i64; 4];
-    let held = answered(b"session", sessions::hold_session(b, 1_520_000, &mut margins));
+    let held = answered(
+        b"session",
+        sessions::hold_session(b, 1_520_000, &mut margins),
+    );
     amount(b"margin", margins[0]);
     amount(b"margin", margins[1]);
     amount(b"margin", margins[2]);

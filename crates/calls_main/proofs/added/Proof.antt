@@ -5,6 +5,7 @@ use borrow.Author.Tests.{leb-true}
 use Rattle.numbers.proofs.Tests.{passed}
 use Rattle.numbers.proofs.Whole.{sum-within, sfits-size}
 use mir.Syntax.{w64}
+use mir.Val.{toZ, ofZ}
 use Rattle.calls_main.proofs.added.Statement.{statement}
 use Rattle.calls_main.proofs.added.Tie as tie
 
@@ -23,11 +24,12 @@ returns-2 c = search needs
 sum-requires : tie.Need-sum-requires
 sum-requires c κs =
     sfits-size w64 _
-    (omega
-    (arith,
-    sum-within _ _ {a = 1_000_000_000_000_000_000} {b = 1_000_000_000_000_000_000}
-    (leb-true _ _ (passed (c .before .before .before .within .ensures) (c .before .before .if1 .left)))
-    (leb-true _ _ (passed (c .before .within2 .ensures) (c .if2 .left)))))
+    (omega (
+      arith,
+      sum-within (toZ w64 (ofZ w64 (c .before .before .before .before .args .x))) (toZ w64 (ofZ w64 (c .before .before .before .before .args .y))) {a = 1_000_000_000_000_000_000} {b = 1_000_000_000_000_000_000}
+          (leb-true _ _ (passed (c .before .before .before .within .ensures) (c .before .before .if1 .left)))
+          (leb-true _ _ (passed (c .before .within2 .ensures) (c .if2 .left))),
+    ))
 
 returns-3 : tie.Need-returns-3
 returns-3 c = search needs
