@@ -1,9 +1,12 @@
 -- Tests: one after the other, and over the entries of a list.
-use mathlib.Core.Bool.{Bool, true, false, not, _&&_, _||_}
+use Prim.Native.Nat.{ℕ, zero, suc}
+use mathlib.Core.Bool.{Bool, true, false, not, cond, _&&_, _||_}
+use lib.Dec.{ltb, eqb}
+use lib.ListN.{getD}
 use mathlib.Core.List.{List, [], _∷_}
 
--- both tests pass; a row of them is read from the left
-infixr 25 _and_
+-- both tests pass; it binds closer than `||`
+infixr 33 _and_
 abbrev pub _and_ : Bool → Bool → Bool
 a and b = a && b
 
@@ -21,3 +24,26 @@ some test (x ∷ xs) = test x || some test xs
 unfoldable pub apart : {A : Type 0} → (A → A → Bool) → List A → Bool
 apart alike [] = true
 apart alike (x ∷ xs) = not (some (alike x) xs) && apart alike xs
+
+-- the numbers from `first` on, n of them
+unfoldable pub counted : ℕ → ℕ → List ℕ
+counted first zero = []
+counted first (suc n) = first ∷ counted (suc first) n
+
+-- the numbers of a list in an order: each one stands before those that it comes before
+unfoldable pub placed : (ℕ → ℕ → Bool) → ℕ → List ℕ → List ℕ
+placed earlier i [] = i ∷ []
+placed earlier i (j ∷ js) = elim (earlier i j) [ true ↦ i ∷ j ∷ js | false ↦ j ∷ placed earlier i js ]
+
+unfoldable pub ordered : (ℕ → ℕ → Bool) → List ℕ → List ℕ
+ordered earlier [] = []
+ordered earlier (i ∷ is) = placed earlier i (ordered earlier is)
+
+-- the place of the largest entry of a list, among equal ones the place that comes earlier: `best` so far, `i` the next place
+unfoldable pub largestFrom : (ℕ → ℕ → Bool) → List ℕ → ℕ → ℕ → List ℕ → ℕ
+largestFrom earlier all best i [] = best
+largestFrom earlier all best i (x ∷ xs) =
+    largestFrom earlier all (cond (ltb (getD all best 0) x || eqb (getD all best 0) x && earlier i best) i best) (suc i) xs
+
+unfoldable pub largest : (ℕ → ℕ → Bool) → List ℕ → ℕ
+largest earlier xs = largestFrom earlier xs 0 0 xs
