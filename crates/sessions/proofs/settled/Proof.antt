@@ -1,5 +1,7 @@
-use Rattle.rules.specs.Calls.Session.{settled}
 use borrow.Author.Needs.{needs}
+use mathlib.Core.Path.{ap}
+use Rattle.rules.specs.declared.units.Kopecks.{Kopecks}
+use Rattle.rules.specs.Calls.Session.{settled}
 use Rattle.sessions.proofs.settled.Statement.{statement}
 use Rattle.sessions.proofs.settled.Tie as tie
 
@@ -8,7 +10,20 @@ worth-requires c κs = search needs
 
 returns : tie.Need-returns
 unfolding settled
-returns c = rw (c .worth .ensures)
+returns c =
+    let s = c .before .before .args .s in
+    ap
+    (λ (basis : Kopecks).
+    record {
+      settlement = s .settlement;
+      code = s .code;
+      participant = s .participant;
+      seller = s .seller;
+      met = s .met;
+      position = s .position;
+      basis = basis;
+    })
+    (c .worth .ensures)
 
 pub settled-spec : {M : Type 1} → statement M
 settled-spec = tie.close (tie.spec worth-requires returns)
