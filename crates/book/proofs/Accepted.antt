@@ -12,14 +12,8 @@ use Rattle.numbers.specs.Whole.{between, within}
 use Rattle.numbers.specs.Lists.{_and_, every}
 use Rattle.numbers.proofs.Tests.{both, or-left, or-right}
 use Rattle.rules.specs.declared.book.Book.{Book}
-use Rattle.rules.specs.Book.{good, lotGood, stepsGood, factorGood, codeGood, byteGood, sectionAt, positionOf, unknown, heldSections, filedNotices}
-use Rattle.rules.specs.Calls.{first}
-use Rattle.rules.specs.Calls.Opening.{openingNumber}
-use Rattle.rules.specs.Calls.Section.{sectionNumber, codeHeld}
-use Rattle.rules.specs.Calls.Trade.{tradeNumber, partyRefusals, sizeRefusals, roomRefusals, passes}
-use Rattle.rules.specs.Calls.Session.{sessionNumber}
-use Rattle.rules.specs.Calls.Condition.{conditionNumber}
-use Rattle.rules.specs.Calls.Notice.{noticeNumber, noticeFiled}
+use Rattle.rules.specs.Book.{good, lotGood, stepsGood, factorGood, codeGood, byteGood, sectionAt, positionOf, heldSections, filedNotices}
+use Rattle.rules.specs.Calls.{first, unknown, openingNumber, sectionNumber, codeHeld, tradeNumber, partyRefusals, sizeRefusals, roomRefusals, passes, sessionNumber, conditionNumber, noticeNumber, noticeFiled}
 use Rattle.book.proofs.Answers.{first-none, first-none-append, numbered}
 use Rattle.book.proofs.Good.{Between, Good, facts, between-facts}
 

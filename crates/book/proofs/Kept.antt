@@ -2,18 +2,13 @@
 -- a good book is shown in the module of each call.
 use Prim.Native.Nat.{ℕ}
 use mathlib.Core.Path.{_≡_, refl}
-use mathlib.Core.Bool.{Bool, true, false}
+use mathlib.Core.Bool.{Bool, true, false, cond}
 use mathlib.Core.List.{List}
 use lib.Dec.{eqb}
 use borrow.Author.Tests.{eqb-true}
 use Rattle.rules.specs.declared.book.Book.{Book}
 use Rattle.rules.specs.Book.{good}
-use Rattle.rules.specs.Calls.{handedOut}
-use Rattle.rules.specs.Calls.Section.{sectionAnswer}
-use Rattle.rules.specs.Calls.Trade.{tradeAnswer}
-use Rattle.rules.specs.Calls.Session.{sessionAnswer}
-use Rattle.rules.specs.Calls.Condition.{conditionAnswer}
-use Rattle.rules.specs.Calls.Notice.{noticeAnswer}
+use Rattle.rules.specs.Calls.{handedOut, sectionAnswer, tradeAnswer, sessionAnswer, conditionAnswer, noticeAnswer}
 pub mod Sections
 pub mod Opening
 pub mod Section
@@ -26,7 +21,7 @@ pub mod Notice
 answered : (number : ℕ) (new old : Book) → (number ≡ 0 → good new ≡ true) → good old ≡ true → good (handedOut number new old) ≡ true
 answered number new old kept was = go (eqb number 0) refl
   where
-    go : (t : Bool) → eqb number 0 ≡ t → good (elim t [ true ↦ new | false ↦ old ]) ≡ true
+    go : (t : Bool) → eqb number 0 ≡ t → good (cond t new old) ≡ true
     go true e = kept (eqb-true number 0 e)
     go false e = was
 

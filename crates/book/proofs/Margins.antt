@@ -10,7 +10,7 @@ use Rattle.rules.specs.declared.book.Section.{Section}
 use Rattle.rules.specs.Units.{worth}
 use Rattle.rules.specs.Value.{factor, value, valueOf}
 use Rattle.rules.specs.Book.{positionOf, basisOf, heldSections, valueAt}
-use Rattle.rules.specs.Calls.Session.{sessionNumber, marginOf, margins}
+use Rattle.rules.specs.Calls.{sessionNumber, marginOf, margins}
 use Rattle.book.proofs.Accepted.{session}
 use Rattle.book.proofs.Good.{Good}
 

@@ -7,13 +7,8 @@ use mathlib.Core.List.{List}
 use lib.IntN.{ℤ, pos, _+ℤ_}
 use Rattle.rules.specs.declared.book.Book.{Book}
 use Rattle.rules.specs.declared.units.Lots.{Lots}
-use Rattle.rules.specs.Book.{positionOf, sectionAt}
-use Rattle.rules.specs.Calls.Opening.{opened, openingNumber}
-use Rattle.rules.specs.Calls.Section.{newSection, withSection}
-use Rattle.rules.specs.Calls.Trade.{traded}
-use Rattle.rules.specs.Calls.Session.{afterSession}
-use Rattle.rules.specs.Calls.Condition.{afterCondition}
-use Rattle.rules.specs.Calls.Notice.{afterNotice}
+use Rattle.rules.specs.Book.{opened, positionOf, sectionAt}
+use Rattle.rules.specs.Calls.{openingNumber, newSection, withSection, traded, afterSession, afterCondition, afterNotice}
 use Rattle.book.proofs.Accepted.{NewTrade}
 use Rattle.book.proofs.Good.{Good, facts}
 use Rattle.book.proofs.Blank.{rest-read}
@@ -28,7 +23,6 @@ abbrev pub Net : Book → ℕ → ℤ → Type 0
 Net b i n = n ≡ positionOf (sectionAt b i)
 
 pub opening-net : (lot w r : ℕ) → openingNumber lot w r ≡ 0 → (i : ℕ) → Net (opened lot w r) i (pos 0)
-unfolding opened
 opening-net lot w r e i = sym (rest-read (opened lot w r) (facts _ (opening-kept lot w r e)) i zero-le positionOf refl)
 
 module _ (b : Book) (i : ℕ) (n : ℤ) (was : Net b i n) where

@@ -4,11 +4,7 @@ use mathlib.Core.Path.{_≡_, refl, sym}
 use mathlib.Core.Bool.{false}
 use mathlib.Core.List.{List}
 use Rattle.rules.specs.Book.{noBook, good, termsGood}
-use Rattle.rules.specs.Calls.Section.{sectionNumber}
-use Rattle.rules.specs.Calls.Trade.{tradeNumber, partyRefusals}
-use Rattle.rules.specs.Calls.Session.{sessionNumber}
-use Rattle.rules.specs.Calls.Condition.{conditionNumber}
-use Rattle.rules.specs.Calls.Notice.{noticeNumber}
+use Rattle.rules.specs.Calls.{sectionNumber, tradeNumber, partyRefusals, sessionNumber, conditionNumber, noticeNumber}
 use Rattle.book.proofs.Answers.{bad-book}
 
 pub no-book : good noBook ≡ false

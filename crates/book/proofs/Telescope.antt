@@ -15,13 +15,8 @@ use Rattle.rules.specs.declared.book.Book.{Book}
 use Rattle.rules.specs.declared.book.Section.{Section}
 use Rattle.rules.specs.declared.units.Kopecks.{Kopecks}
 use Rattle.rules.specs.Units.{worth}
-use Rattle.rules.specs.Book.{basisOf, sectionAt, valueAt}
-use Rattle.rules.specs.Calls.Opening.{opened, openingNumber}
-use Rattle.rules.specs.Calls.Section.{newSection, withSection}
-use Rattle.rules.specs.Calls.Trade.{traded}
-use Rattle.rules.specs.Calls.Session.{settled, marginOf, margins, afterSession}
-use Rattle.rules.specs.Calls.Condition.{afterCondition}
-use Rattle.rules.specs.Calls.Notice.{afterNotice}
+use Rattle.rules.specs.Book.{opened, basisOf, sectionAt, valueAt}
+use Rattle.rules.specs.Calls.{openingNumber, newSection, withSection, traded, settled, marginOf, margins, afterSession, afterCondition, afterNotice}
 use Rattle.book.proofs.Accepted.{NewTrade}
 use Rattle.book.proofs.Good.{Good, facts}
 use Rattle.book.proofs.Held.{held-basis}
@@ -59,7 +54,6 @@ session-rise b price book i = ⊎-elim held past (below-or-not i (b .held))
 
 -- an opened book: no margin, no trade, no basis
 pub opening-step : (lot w r : ℕ) → openingNumber lot w r ≡ 0 → (i : ℕ) → Telescoped (opened lot w r) i (pos 0) (pos 0)
-unfolding opened
 opening-step lot w r e i = sym (rest-read (opened lot w r) (facts _ (opening-kept lot w r e)) i zero-le basisOf refl)
 
 -- each call takes the invariant on

@@ -4,7 +4,7 @@ ghost use Prim.Native.Nat.{_≤_};
 ghost use lib.ListN.{drop};
 ghost use Rattle.numbers.specs.Lists.{every, apart};
 ghost use Rattle.rules.specs.Book.{filedNotices, noticesAlike, noticeGood, noticeBlank, noticesGood};
-ghost use Rattle.rules.specs.Calls.Notice.{noticeFiled};
+ghost use Rattle.rules.specs.Calls.{noticeFiled};
 use rules::book::Book;
 use rules::book::Notice;
 use rules::limits::ELEVATOR_MOST;

@@ -6,7 +6,7 @@ ghost use Prim.Native.Nat.{_≤_};
 ghost use lib.ListN.{drop};
 ghost use Rattle.numbers.specs.Lists.{_and_, every, apart};
 ghost use Rattle.rules.specs.Book.{heldSections, positionOf, basisOf, codesAlike, sumsToZero, sectionGood, sectionBlank, sectionsGood};
-ghost use Rattle.rules.specs.Calls.Section.{codeHeld};
+ghost use Rattle.rules.specs.Calls.{codeHeld};
 use crate::codes;
 use rules::book::Book;
 use rules::book::Section;

@@ -1,9 +1,10 @@
--- Tests: one after the other, and over the entries of a list.
-use Prim.Native.Nat.{ℕ, zero, suc}
+-- Tests, one after the other and over the entries of a list; the entries of a list by number; lists in an order.
+use Prim.Native.Nat.{ℕ, zero, suc, _+_, _-_}
 use mathlib.Core.Bool.{Bool, true, false, not, cond, _&&_, _||_}
 use lib.Dec.{ltb, eqb}
-use lib.ListN.{getD}
-use mathlib.Core.List.{List, [], _∷_}
+use lib.ListN.{getD, length, take, drop}
+use lib.IntN.{ℤ, pos}
+use mathlib.Core.List.{List, [], _∷_, _++_, map}
 
 -- both tests pass; it binds closer than `||`
 infixr 33 _and_
@@ -25,10 +26,42 @@ unfoldable pub apart : {A : Type 0} → (A → A → Bool) → List A → Bool
 apart alike [] = true
 apart alike (x ∷ xs) = not (some (alike x) xs) && apart alike xs
 
+-- every entry has the property
+unfoldable pub Every : {A : Type 0} → (A → Type 0) → List A → Type 0
+Every P [] = Unit {0}
+Every P (x ∷ xs) = P x × Every P xs
+
 -- the numbers from `first` on, n of them
 unfoldable pub counted : ℕ → ℕ → List ℕ
 counted first zero = []
 counted first (suc n) = first ∷ counted (suc first) n
+
+-- the list of n entries whose entry i is f i
+abbrev pub listed : {A : Type 0} → ℕ → (ℕ → A) → List A
+listed n f = map f (counted 0 n)
+
+-- entry i of a list, 0 past its end
+abbrev pub entry : List ℕ → ℕ → ℕ
+entry xs i = getD xs i 0
+
+abbrev pub entryℤ : List ℤ → ℕ → ℤ
+entryℤ xs i = getD xs i (pos 0)
+
+-- what is left of each entry when some of it is taken
+abbrev pub less : List ℕ → List ℕ → List ℕ
+less xs taken = listed (length xs) (λ (i : ℕ). entry xs i - entry taken i)
+
+-- a list has fewer than n entries
+abbrev pub shorter : {A : Type 0} → ℕ → List A → Bool
+shorter n xs = ltb (length xs) n
+
+-- a list with entries written over its first ones; later entries remain
+abbrev pub over : {A : Type 0} → List A → List A → List A
+over written list = written ++ drop (length written) list
+
+-- a list with entries written from a place on; all others remain
+unfoldable pub put : List ℕ → ℕ → List ℕ → List ℕ
+put list at written = take at list ++ written ++ drop (at + length written) list
 
 -- the numbers of a list in an order: each one stands before those that it comes before
 unfoldable pub placed : (ℕ → ℕ → Bool) → ℕ → List ℕ → List ℕ

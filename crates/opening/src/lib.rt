@@ -1,7 +1,7 @@
 // Opening a book.
 ghost use mathlib.Core.Path.{_≡_};
-ghost use Rattle.rules.specs.Book.{noBook, blankSection, blankNotice};
-ghost use Rattle.rules.specs.Calls.Opening as Rules;
+ghost use Rattle.rules.specs.Book.{opened, noBook, blankSection, blankNotice};
+ghost use Rattle.rules.specs.Calls as Rules;
 use judge::terms;
 use rules::book::Answer;
 use rules::book::Book;
@@ -43,7 +43,7 @@ fn blank_notice() -> Notice
 
 // A book of the terms and of noughts everywhere else.
 fn blank_book(lot: u32, w: u32, r: u32) -> Book
-    ensures { λ b. ⌜ b ≡ Rules.opened lot w r ⌝ }
+    ensures { λ b. ⌜ b ≡ opened lot w r ⌝ }
 {
     let sections = [blank_section(); 128];
     let notices = [blank_notice(); 256];

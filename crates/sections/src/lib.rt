@@ -2,7 +2,7 @@
 ghost use mathlib.Core.Path.{_≡_};
 ghost use mathlib.Core.Bool.{true};
 ghost use Rattle.rules.specs.Book.{good};
-ghost use Rattle.rules.specs.Calls.Section as Rules;
+ghost use Rattle.rules.specs.Calls as Rules;
 use judge::codes;
 use judge::sections;
 use rules::book::Answer;

@@ -6,7 +6,7 @@ ghost use Prim.Native.Nat.{_≤_};
 ghost use lib.IntN.{natAbs};
 ghost use lib.ListN.{length, drop};
 ghost use Rattle.rules.specs.Book.{good, positionOf, basisOf};
-ghost use Rattle.rules.specs.Calls.Session as Rules;
+ghost use Rattle.rules.specs.Calls as Rules;
 use judge::terms;
 use rules::book::Answer;
 use rules::book::Book;

@@ -5,7 +5,7 @@ ghost use Prim.Native.Nat.{_≤_, _<_};
 ghost use lib.IntN.{natAbs};
 ghost use Rattle.rules.specs.Book.{good, positionOf, basisOf, valueAt};
 ghost use Rattle.rules.specs.Calls.{first};
-ghost use Rattle.rules.specs.Calls.Trade as Rules;
+ghost use Rattle.rules.specs.Calls as Rules;
 use judge::terms;
 use rules::book::Answer;
 use rules::book::Book;

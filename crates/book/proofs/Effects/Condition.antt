@@ -8,7 +8,7 @@ use lib.Seq.{getD-set-same, getD-set-other, map-set-same}
 use Rattle.rules.specs.declared.book.Book.{Book}
 use Rattle.rules.specs.declared.book.Section.{Section}
 use Rattle.rules.specs.Book.{sectionAt, sectionOfNoughts}
-use Rattle.rules.specs.Calls.Condition.{marked, afterCondition}
+use Rattle.rules.specs.Calls.{marked, afterCondition}
 use Rattle.book.proofs.Good.{Good}
 use Rattle.book.proofs.Held.{held-place}
 use Rattle.book.proofs.Effects.Same.{SameTerms, SameNotices, SameSession, SameHolder}

@@ -6,7 +6,7 @@ use lib.Seq.{getD-set-same, getD-set-other}
 use lib.IntN.{pos}
 use Rattle.rules.specs.declared.book.Book.{Book}
 use Rattle.rules.specs.Book.{noticeAt, blankNotice}
-use Rattle.rules.specs.Calls.Notice.{afterNotice}
+use Rattle.rules.specs.Calls.{afterNotice}
 use Rattle.book.proofs.Good.{Good}
 use Rattle.book.proofs.Effects.Same.{SameTerms, SameSession}
 

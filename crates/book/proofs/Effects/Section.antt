@@ -11,7 +11,7 @@ use Rattle.numbers.proofs.Tests.{same-or-not}
 use Rattle.rules.specs.declared.book.Book.{Book}
 use Rattle.rules.specs.declared.book.Section.{Section}
 use Rattle.rules.specs.Book.{positionOf, basisOf, sectionAt, sectionOfNoughts, blankSection}
-use Rattle.rules.specs.Calls.Section.{newSection, withSection}
+use Rattle.rules.specs.Calls.{newSection, withSection}
 use Rattle.book.proofs.Blank.{rest-read}
 use Rattle.book.proofs.Good.{Good}
 use Rattle.book.proofs.Effects.Same.{SameTerms, SameNotices, SameSession}

@@ -13,7 +13,7 @@ use Rattle.rules.specs.declared.book.Book.{Book}
 use Rattle.rules.specs.declared.book.Section.{Section}
 use Rattle.rules.specs.Units.{worth}
 use Rattle.rules.specs.Book.{positionOf, basisOf, heldSections, sectionAt, sectionOfNoughts, valueAt}
-use Rattle.rules.specs.Calls.Session.{settled, marginOf, margins, following, afterSession}
+use Rattle.rules.specs.Calls.{settled, marginOf, margins, following, afterSession}
 use Rattle.book.proofs.Good.{Good}
 use Rattle.book.proofs.Held.{held-length}
 use Rattle.book.proofs.Kept.Session.{settled-held, settled-rest}

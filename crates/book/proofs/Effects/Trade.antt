@@ -14,7 +14,7 @@ use Rattle.rules.specs.declared.units.Lots.{Lots}
 use Rattle.rules.specs.declared.units.Kopecks.{Kopecks}
 use Rattle.rules.specs.Units.{worth}
 use Rattle.rules.specs.Book.{positionOf, basisOf, sectionAt, sectionOfNoughts, valueAt}
-use Rattle.rules.specs.Calls.Trade.{moved, traded}
+use Rattle.rules.specs.Calls.{moved, traded}
 use Rattle.book.proofs.Accepted.{NewTrade}
 use Rattle.book.proofs.Held.{held-place}
 use Rattle.book.proofs.Lots.{sold-size}

@@ -7,7 +7,7 @@ use lib.IntN.{pos, +ℤ-idr}
 use Rattle.rules.specs.declared.book.Book.{Book}
 use Rattle.rules.specs.declared.book.Section.{Section}
 use Rattle.rules.specs.Book.{good, sectionAt, sectionOfNoughts}
-use Rattle.rules.specs.Calls.Condition.{conditionNumber, marked, afterCondition}
+use Rattle.rules.specs.Calls.{conditionNumber, marked, afterCondition}
 use Rattle.book.proofs.Accepted.{condition}
 use Rattle.book.proofs.Good.{SectionGood, test}
 use Rattle.book.proofs.Held.{held-good}

@@ -13,7 +13,7 @@ use Rattle.numbers.proofs.Changed.{every-append, every-drop, apart-more, take-m
 use Rattle.rules.specs.declared.book.Book.{Book}
 use Rattle.rules.specs.declared.book.Notice.{Notice}
 use Rattle.rules.specs.Book.{good, noticeGood, noticeBlank, noticesAlike, filedNotices}
-use Rattle.rules.specs.Calls.Notice.{noticeNumber, afterNotice}
+use Rattle.rules.specs.Calls.{noticeNumber, afterNotice}
 use Rattle.book.proofs.Accepted.{NewNotice, notice}
 use Rattle.book.proofs.Good.{Good, test}
 

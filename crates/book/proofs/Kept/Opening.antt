@@ -9,8 +9,8 @@ use Rattle.numbers.specs.Lists.{every, apart}
 use Rattle.numbers.specs.Sums.{gathered}
 use Rattle.numbers.proofs.Tests.{both}
 use Rattle.numbers.proofs.Changed.{every-replicate}
-use Rattle.rules.specs.Book.{good, blankSection, blankNotice, sectionBlank, noticeBlank}
-use Rattle.rules.specs.Calls.Opening.{openingNumber, opened}
+use Rattle.rules.specs.Book.{opened, good, blankSection, blankNotice, sectionBlank, noticeBlank}
+use Rattle.rules.specs.Calls.{openingNumber}
 use Rattle.book.proofs.Accepted.{opening}
 use Rattle.book.proofs.Good.{Good, between-facts, test}
 
@@ -23,7 +23,7 @@ unfolding noticeBlank
 notice-blank = refl
 
 opened-good : (lot w r : ℕ) → openingNumber lot w r ≡ 0 → Good (opened lot w r)
-unfolding opened every apart gathered
+unfolding every apart gathered
 opened-good lot w r e =
     let call = opening lot w r e in
     let steps = both (between 1 1_000_000 w) (between 1 1_000_000 r) (call .1) in

@@ -18,7 +18,7 @@ use Rattle.rules.specs.declared.book.Book.{Book}
 use Rattle.rules.specs.declared.book.Section.{Section}
 use Rattle.rules.specs.declared.book.Notice.{Notice}
 use Rattle.rules.specs.Book.{good, positionOf, basisOf, sectionGood, basisMost, sectionBlank, noticeGood, codesAlike, heldSections, filedNotices}
-use Rattle.rules.specs.Calls.Section.{sectionNumber, newSection, withSection}
+use Rattle.rules.specs.Calls.{sectionNumber, newSection, withSection}
 use Rattle.book.proofs.Accepted.{NewSection, section}
 use Rattle.book.proofs.Good.{Good, test}
 

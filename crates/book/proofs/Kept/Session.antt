@@ -17,7 +17,7 @@ use Rattle.rules.specs.declared.book.LastSession.{LastSession}
 use Rattle.rules.specs.declared.book.LastSession.the-variants.{None, Day, Evening}
 use Rattle.rules.specs.declared.units.Kopecks.{Kopecks}
 use Rattle.rules.specs.Book.{good, lastGood, positionOf, basisOf, sectionGood, heldSections, valueAt}
-use Rattle.rules.specs.Calls.Session.{sessionNumber, following, settled, afterSession}
+use Rattle.rules.specs.Calls.{sessionNumber, following, settled, afterSession}
 use Rattle.book.proofs.Accepted.{session}
 use Rattle.book.proofs.Good.{Between, Good, section-facts, between-test, test}
 use Rattle.book.proofs.Held.{held-length}

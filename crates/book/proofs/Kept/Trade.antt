@@ -15,7 +15,7 @@ use Rattle.rules.specs.declared.units.Lots.{Lots}
 use Rattle.rules.specs.Units.{worth}
 use Rattle.rules.specs.Value.{factor}
 use Rattle.rules.specs.Book.{good, positionOf, basisOf, sectionAt, sectionOfNoughts, valueAt}
-use Rattle.rules.specs.Calls.Trade.{tradeNumber, moved, traded}
+use Rattle.rules.specs.Calls.{tradeNumber, moved, traded}
 use Rattle.book.proofs.Accepted.{NewTrade, trade}
 use Rattle.book.proofs.Good.{Good, test}
 use Rattle.book.proofs.Held.{held-good}

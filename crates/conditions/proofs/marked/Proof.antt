@@ -1,7 +1,7 @@
 use Prim.Native.Nat.{_<_}
 use native.Mathlib.Omega.{arith}
 use mathlib.Core.Path.{refl}
-use Rattle.rules.specs.Calls.Condition.{marked, afterCondition}
+use Rattle.rules.specs.Calls.{marked, afterCondition}
 use Rattle.book.proofs.Accepted.{NewCondition, condition}
 use borrow.Author.Needs.{needs}
 use Rattle.conditions.proofs.marked.Statement.{statement}

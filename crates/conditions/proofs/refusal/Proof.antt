@@ -1,6 +1,5 @@
 use borrow.Author.Tests.{lt-leb, le-leb}
-use Rattle.rules.specs.Calls.{first}
-use Rattle.rules.specs.Calls.Condition.{conditionNumber}
+use Rattle.rules.specs.Calls.{first, conditionNumber}
 use Rattle.conditions.proofs.refusal.Statement.{statement}
 use Rattle.conditions.proofs.refusal.Tie as tie
 

@@ -1,7 +1,7 @@
 use native.Mathlib.Omega.{arith}
 use mathlib.Core.Path.{_≡_, sym, ap, _∙_}
 use Rattle.numbers.proofs.Tests.{failed, passed}
-use Rattle.rules.specs.Calls.Condition.{conditionNumber, conditionAnswer}
+use Rattle.rules.specs.Calls.{conditionNumber, conditionAnswer}
 use Rattle.book.proofs.Answers.{refused, accepted, bad-book}
 use borrow.Author.Needs.{needs}
 use Rattle.conditions.proofs.set_condition.Statement.{statement}

@@ -1,7 +1,7 @@
 use native.Mathlib.Omega.{arith}
 use mathlib.Core.Path.{_≡_, sym, ap, _∙_}
 use Rattle.numbers.proofs.Tests.{failed, passed}
-use Rattle.rules.specs.Calls.Notice.{noticeNumber, noticeAnswer}
+use Rattle.rules.specs.Calls.{noticeNumber, noticeAnswer}
 use Rattle.book.proofs.Answers.{refused, accepted, bad-book}
 use borrow.Author.Needs.{needs}
 use Rattle.notices.proofs.file_notice.Statement.{statement}

@@ -2,7 +2,7 @@ use Prim.Native.Nat.{_<_}
 use native.Mathlib.Omega.{arith}
 use mir.Syntax.{w64}
 use mir.Facts.{toZ-pos}
-use Rattle.rules.specs.Calls.Notice.{afterNotice}
+use Rattle.rules.specs.Calls.{afterNotice}
 use Rattle.book.proofs.Accepted.{notice}
 use borrow.Author.Needs.{needs}
 use Rattle.notices.proofs.filed.Statement.{statement}

@@ -1,8 +1,7 @@
 use mathlib.Core.Path.{sym, _∙_}
 use borrow.Author.Tests.{lt-ltb, le-ltb, lt-leb, le-leb}
 use Rattle.numbers.proofs.Tests.{failed, passed}
-use Rattle.rules.specs.Calls.{first}
-use Rattle.rules.specs.Calls.Notice.{noticeNumber}
+use Rattle.rules.specs.Calls.{first, noticeNumber}
 use Rattle.book.proofs.Good.{facts}
 use borrow.Author.Needs.{needs}
 use Rattle.notices.proofs.refusal.Statement.{statement}

@@ -1,4 +1,3 @@
-use Rattle.rules.specs.Calls.Opening.{opened}
 use borrow.Author.Needs.{needs}
 use Rattle.opening.proofs.blank_book.Statement.{statement}
 use Rattle.opening.proofs.blank_book.Tie as tie
@@ -10,7 +9,6 @@ blank-notice-requires : tie.Need-blank-notice-requires
 blank-notice-requires c κs = search needs
 
 returns : tie.Need-returns
-unfolding opened
 returns c = rw (c .before .blank-section .ensures, c .blank-notice .ensures)
 
 pub blank-book-spec : {M : Type 1} → statement M

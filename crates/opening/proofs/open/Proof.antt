@@ -1,7 +1,7 @@
 use mathlib.Core.Path.{ap, _∙_}
 use Rattle.rules.specs.declared.book.Book.{Book}
 use Rattle.rules.specs.Book.{noBook}
-use Rattle.rules.specs.Calls.Opening.{opened, openingAnswer}
+use Rattle.rules.specs.Calls.{openingAnswer}
 use Rattle.book.proofs.Answers.{refused, accepted}
 use borrow.Author.Needs.{needs}
 use Rattle.opening.proofs.open.Statement.{statement}
@@ -14,7 +14,7 @@ blank-book-requires : tie.Need-blank-book-requires
 blank-book-requires c κs = search needs
 
 returns : tie.Need-returns
-unfolding opened openingAnswer
+unfolding openingAnswer
 returns c = ap (λ (b : Book). record { number = c .before .before .refusal .result; book = b }) (c .blank-book .ensures) ∙ refused _ _ _ noBook (c .before .before .refusal .ensures) (c .before .if1 .taken)
 
 blank-book-requires-2 : tie.Need-blank-book-requires-2

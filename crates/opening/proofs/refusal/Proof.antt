@@ -1,6 +1,5 @@
 use Rattle.numbers.proofs.Tests.{failed, passed}
-use Rattle.rules.specs.Calls.{first}
-use Rattle.rules.specs.Calls.Opening.{openingNumber}
+use Rattle.rules.specs.Calls.{first, openingNumber}
 use borrow.Author.Needs.{needs}
 use Rattle.opening.proofs.refusal.Statement.{statement}
 use Rattle.opening.proofs.refusal.Tie as tie

@@ -1,5 +1,5 @@
 use mathlib.Core.Path.{refl}
-use Rattle.rules.specs.Calls.Section.{newSection}
+use Rattle.rules.specs.Calls.{newSection}
 use Rattle.sections.proofs.new_section.Statement.{statement}
 use Rattle.sections.proofs.new_section.Tie as tie
 

@@ -1,7 +1,7 @@
 use native.Mathlib.Omega.{arith}
 use mathlib.Core.Path.{_≡_, sym, ap, _∙_}
 use Rattle.numbers.proofs.Tests.{failed, passed}
-use Rattle.rules.specs.Calls.Section.{sectionNumber, sectionAnswer}
+use Rattle.rules.specs.Calls.{sectionNumber, sectionAnswer}
 use Rattle.book.proofs.Answers.{refused, accepted, bad-book}
 use borrow.Author.Needs.{needs}
 use Rattle.sections.proofs.open_section.Statement.{statement}

@@ -1,6 +1,6 @@
 use Prim.Native.Nat.{_<_}
 use native.Mathlib.Omega.{arith}
-use Rattle.rules.specs.Calls.Section.{withSection}
+use Rattle.rules.specs.Calls.{withSection}
 use Rattle.book.proofs.Accepted.{section}
 use borrow.Author.Needs.{needs}
 use Rattle.sections.proofs.with_section.Statement.{statement}

@@ -13,7 +13,7 @@ use Rattle.value.proofs.Laws.{value-within}
 use Rattle.rules.specs.declared.book.Section.{Section}
 use Rattle.rules.specs.declared.units.Kopecks.{Kopecks}
 use Rattle.rules.specs.Book.{sectionAt, sectionOfNoughts, valueAt}
-use Rattle.rules.specs.Calls.Session.{settled, marginOf, margins, afterSession}
+use Rattle.rules.specs.Calls.{settled, marginOf, margins, afterSession}
 use Rattle.book.proofs.Accepted.{NewSession, session}
 use Rattle.book.proofs.Good.{Good, test}
 use Rattle.book.proofs.Held.{held-good, held-basis}

@@ -1,7 +1,7 @@
 use native.Mathlib.Omega.{arith}
 use mathlib.Core.Path.{sym, _∙_}
 use Rattle.numbers.proofs.Tests.{failed, passed}
-use Rattle.rules.specs.Calls.Session.{sessionNumber, sessionAnswer, sessionMargins}
+use Rattle.rules.specs.Calls.{sessionNumber, sessionAnswer, sessionMargins}
 use Rattle.book.proofs.Answers.{refused, accepted, kept, written, bad-book}
 use borrow.Author.Needs.{needs}
 use Rattle.sessions.proofs.hold_session.Statement.{statement}

@@ -9,7 +9,7 @@ use Rattle.value.proofs.Laws.{worth-within}
 use Rattle.rules.specs.declared.units.Kopecks.{Kopecks}
 use Rattle.rules.specs.Units.{worth}
 use Rattle.rules.specs.Book.{basisOf}
-use Rattle.rules.specs.Calls.Session.{marginOf}
+use Rattle.rules.specs.Calls.{marginOf}
 use Rattle.sessions.proofs.margin.Statement.{statement}
 use Rattle.sessions.proofs.margin.Tie as tie
 

@@ -1,7 +1,6 @@
 use borrow.Author.Tests.{lt-ltb, le-ltb}
 use Rattle.numbers.proofs.Tests.{failed, passed}
-use Rattle.rules.specs.Calls.{first}
-use Rattle.rules.specs.Calls.Session.{sessionNumber}
+use Rattle.rules.specs.Calls.{first, sessionNumber}
 use borrow.Author.Needs.{needs}
 use Rattle.sessions.proofs.refusal.Statement.{statement}
 use Rattle.sessions.proofs.refusal.Tie as tie

@@ -1,7 +1,7 @@
 use borrow.Author.Needs.{needs}
 use mathlib.Core.Path.{ap}
 use Rattle.rules.specs.declared.units.Kopecks.{Kopecks}
-use Rattle.rules.specs.Calls.Session.{settled}
+use Rattle.rules.specs.Calls.{settled}
 use Rattle.sessions.proofs.settled.Statement.{statement}
 use Rattle.sessions.proofs.settled.Tie as tie
 

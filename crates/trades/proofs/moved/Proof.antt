@@ -9,7 +9,7 @@ use Rattle.value.proofs.Laws.{worth-within}
 use Rattle.rules.specs.declared.units.Kopecks.{Kopecks}
 use Rattle.rules.specs.Units.{worth}
 use Rattle.rules.specs.Book.{positionOf, basisOf}
-use Rattle.rules.specs.Calls.Trade.{moved}
+use Rattle.rules.specs.Calls.{moved}
 use Rattle.trades.proofs.moved.Statement.{statement}
 use Rattle.trades.proofs.moved.Tie as tie
 

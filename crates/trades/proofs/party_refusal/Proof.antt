@@ -1,6 +1,5 @@
 use borrow.Author.Tests.{lt-leb, le-leb, eq-eqb, ne-eqb}
-use Rattle.rules.specs.Calls.{first}
-use Rattle.rules.specs.Calls.Trade.{partyRefusals}
+use Rattle.rules.specs.Calls.{first, partyRefusals}
 use Rattle.trades.proofs.party_refusal.Statement.{statement}
 use Rattle.trades.proofs.party_refusal.Tie as tie
 

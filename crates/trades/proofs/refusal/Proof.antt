@@ -1,7 +1,6 @@
 use mathlib.Core.Path.{_≡_, sym, _∙_}
 use mathlib.Core.List.{_++_}
-use Rattle.rules.specs.Calls.{first}
-use Rattle.rules.specs.Calls.Trade.{tradeNumber, partyRefusals, sizeRefusals, roomRefusals}
+use Rattle.rules.specs.Calls.{first, tradeNumber, partyRefusals, sizeRefusals, roomRefusals}
 use Rattle.book.proofs.Accepted.{parties, sizes, parties-numbered, sizes-numbered}
 use Rattle.book.proofs.Answers.{first-hit, first-pass}
 use Rattle.book.proofs.Good.{facts}

@@ -3,8 +3,7 @@ use mathlib.Core.Path.{_≡_, sym, ap, _∙_}
 use borrow.Author.Tests.{lt-leb, le-leb}
 use lib.IntN.{pos, negℤ}
 use Rattle.rules.specs.Book.{sectionAt}
-use Rattle.rules.specs.Calls.{first}
-use Rattle.rules.specs.Calls.Trade.{roomRefusals, passes}
+use Rattle.rules.specs.Calls.{first, roomRefusals, passes}
 use Rattle.book.proofs.Good.{Good, facts}
 use Rattle.book.proofs.Held.{held-good}
 use Rattle.book.proofs.Lots.{bought, bought-small, sold, sold-fits, sold-small}

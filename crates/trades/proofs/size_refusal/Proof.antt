@@ -1,8 +1,7 @@
 use Prim.Native.Nat.{_%_}
 use borrow.Author.Tests.{eq-eqb, ne-eqb}
 use Rattle.numbers.proofs.Tests.{failed, passed}
-use Rattle.rules.specs.Calls.{first}
-use Rattle.rules.specs.Calls.Trade.{sizeRefusals}
+use Rattle.rules.specs.Calls.{first, sizeRefusals}
 use borrow.Author.Needs.{needs}
 use Rattle.trades.proofs.size_refusal.Statement.{statement}
 use Rattle.trades.proofs.size_refusal.Tie as tie

@@ -1,8 +1,7 @@
 use native.Mathlib.Omega.{arith}
 use mathlib.Core.Path.{_≡_, sym, ap, _∙_}
 use Rattle.numbers.proofs.Tests.{failed, passed}
-use Rattle.rules.specs.Calls.Trade.{tradeNumber, tradeAnswer}
-use Rattle.rules.specs.Calls.Trade
+use Rattle.rules.specs.Calls.{tradeNumber, tradeAnswer, partyRefusals}
 use Rattle.book.proofs.Answers.{refused, accepted, bad-book}
 use borrow.Author.Needs.{needs}
 use Rattle.trades.proofs.trade.Statement.{statement}
@@ -12,7 +11,7 @@ good-requires : tie.Need-good-requires
 good-requires c κs = search needs
 
 returns : tie.Need-returns
-unfolding tradeNumber tradeAnswer Trade.partyRefusals
+unfolding tradeNumber tradeAnswer partyRefusals
 returns c = refused 1 _ _ _ (bad-book _ _ (failed (c .before .good2 .ensures) (c .if1 .taken))) (λ e. omega arith)
 
 refusal-requires : tie.Need-refusal-requires

@@ -5,7 +5,7 @@ use lib.IntN.{ℤ, pos, negℤ, natAbs}
 use Rattle.value.proofs.Laws.{value-within}
 use Rattle.rules.specs.declared.units.Kopecks.{Kopecks}
 use Rattle.rules.specs.Book.{sectionAt, valueAt}
-use Rattle.rules.specs.Calls.Trade.{moved, traded}
+use Rattle.rules.specs.Calls.{moved, traded}
 use Rattle.book.proofs.Accepted.{NewTrade, trade}
 use Rattle.book.proofs.Good.{Good, test}
 use Rattle.book.proofs.Held.{held-good, held-basis}

@@ -12,7 +12,7 @@ use Rattle.numbers.proofs.Lists.{length-mapped, Has, some-next, some-stop, some
 use Rattle.rules.specs.Book.{filedNotices, noticeAt}
 use Rattle.book.proofs.Held.{filed-length, has-notice}
 use Rattle.rules.specs.declared.book.Notice.{Notice}
-use Rattle.rules.specs.Calls.Notice.{noticeFiled}
+use Rattle.rules.specs.Calls.{noticeFiled}
 use borrow.Author.Needs.{needs}
 use Rattle.judge.proofs.notices.notice_filed.Statement.{statement}
 use Rattle.judge.proofs.notices.notice_filed.Tie as tie

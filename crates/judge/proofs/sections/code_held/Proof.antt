@@ -7,7 +7,7 @@ use Rattle.numbers.proofs.Lists.{length-mapped, Has, some-next, some-stop, some
 use Rattle.rules.specs.Book.{heldSections, sectionAt}
 use Rattle.book.proofs.Held.{held-length, has-section}
 use Rattle.rules.specs.declared.book.Section.{Section}
-use Rattle.rules.specs.Calls.Section.{codeHeld}
+use Rattle.rules.specs.Calls.{codeHeld}
 use borrow.Author.Needs.{needs}
 use Rattle.judge.proofs.sections.code_held.Statement.{statement}
 use Rattle.judge.proofs.sections.code_held.Tie as tie
