@@ -6,3 +6,5 @@ pub mod Sums
 pub mod Bytes
 pub mod Little
 pub mod Cells
+pub mod Ranges
+pub mod Orders

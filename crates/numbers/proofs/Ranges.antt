@@ -1,0 +1,122 @@
+-- Lists by number: what `listed` holds, and sums over the numbers below n, stated once over what is summed.
+use Prim.Native.Nat.{ℕ, zero, suc, _+_, _-_, _≤_, _<_}
+use native.Mathlib.Nat.{add-zero, zero-add, suc-add, add-suc, not-suc-le-zero, le-of-suc-le-suc}
+use native.Mathlib.Numerals.{add-one}
+use native.Mathlib.Omega.{arith}
+use mathlib.Core.Path.{_≡_, refl, sym, ap, ap₂, _∙_}
+use mathlib.Core.Bool.{Bool, true, false, cond}
+use mathlib.Core.List.{List, [], _∷_, _++_, map, map-append}
+use mathlib.Core.Logic.{_⊎_, inl, inr, ⊎-elim}
+use lib.Dec.{eqb}
+use lib.ListN.{length, getD, length-map}
+use borrow.Author.Tests.{eqb-true, eq-eqb, ne-eqb}
+use Rattle.numbers.specs.Lists.{counted, listed}
+use Rattle.numbers.specs.Sums.{gathered, total}
+use Rattle.numbers.proofs.Sums.{Addition, naturals, total-append, total-map}
+use Rattle.numbers.proofs.Changed.{read-at}
+use Rattle.numbers.proofs.Tests.{same-or-not}
+
+-- the numbers from a on, n of them
+pub counted-length : (a n : ℕ) → length (counted a n) ≡ n
+unfolding counted
+counted-length a zero = refl
+counted-length a (suc n) = ap suc (counted-length (suc a) n)
+
+pub counted-at : (a n i d : ℕ) → i < n → getD (counted a n) i d ≡ a + i
+unfolding counted
+counted-at a zero i d h = absurd (not-suc-le-zero h)
+counted-at a (suc n) zero d h = sym (add-zero a)
+counted-at a (suc n) (suc i) d h = counted-at (suc a) n i d (le-of-suc-le-suc h) ∙ omega arith
+
+pub counted-more : (a n : ℕ) → counted a (suc n) ≡ counted a n ++ ((a + n) ∷ [])
+unfolding counted
+counted-more a zero = ap (λ (m : ℕ). m ∷ []) (sym (add-zero a))
+counted-more a (suc n) = ap (λ (ms : List ℕ). a ∷ ms) (counted-more (suc a) n ∙ ap (λ (m : ℕ). counted (suc a) n ++ (m ∷ [])) (omega arith))
+
+module _ {A : Type 0} (n : ℕ) (f : ℕ → A) where
+  pub listed-length : length (listed n f) ≡ n
+  listed-length = length-map (counted 0 n) f ∙ counted-length 0 n
+
+  pub listed-at : (i : ℕ) (d : A) → i < n → getD (listed n f) i d ≡ f i
+  listed-at i d h =
+      read-at f (counted 0 n) i 0 d (omega (arith, counted-length 0 n))
+      ∙ ap f (counted-at 0 n i 0 h ∙ zero-add i)
+
+-- what is read where two numbers are the same, and where they are not
+module _ {A : Type 0} (i j : ℕ) (x y : A) where
+  pub chosen-yes : i ≡ j → cond (eqb i j) x y ≡ x
+  chosen-yes e = ap (λ (t : Bool). cond t x y) (eq-eqb i j e)
+
+  pub chosen-no : (i ≡ j → ⊥) → cond (eqb i j) x y ≡ y
+  chosen-no e = ap (λ (t : Bool). cond t x y) (ne-eqb i j e)
+
+module _ {A : Type 0} (join : A → A → A) (none : A) (add : Addition join none) where
+  -- one number more
+  pub sum-more : (n : ℕ) (f : ℕ → A) → gathered join none (listed (suc n) f) ≡ join (gathered join none (listed n f)) (f n)
+  unfolding gathered
+  sum-more n f =
+      ap (λ (ms : List ℕ). gathered join none (map f ms)) (counted-more 0 n)
+      ∙ ap (gathered join none) (map-append f (counted 0 n) ((0 + n) ∷ []))
+      ∙ total-append join none add (map f (counted 0 n)) (f (0 + n) ∷ [])
+      ∙ ap (join (gathered join none (listed n f))) (add .comm (f (0 + n)) none ∙ add .unit (f (0 + n)) ∙ ap f (zero-add n))
+
+  -- equal at each number
+  pub sum-same : (n : ℕ) (f g : ℕ → A) → ((i : ℕ) → i < n → f i ≡ g i) → gathered join none (listed n f) ≡ gathered join none (listed n g)
+  unfolding counted gathered
+  sum-same zero f g e = refl
+  sum-same (suc n) f g e =
+      sum-more n f ∙ ap₂ join (sum-same n f g (λ i h. e i (omega arith))) (e n (omega arith)) ∙ sym (sum-more n g)
+
+  -- nothing at each number
+  pub sum-nothing : (n : ℕ) (f : ℕ → A) → ((i : ℕ) → i < n → f i ≡ none) → gathered join none (listed n f) ≡ none
+  unfolding counted gathered
+  sum-nothing zero f e = refl
+  sum-nothing (suc n) f e = sum-more n f ∙ ap₂ join (sum-nothing n f (λ i h. e i (omega arith))) (e n (omega arith)) ∙ add .unit none
+
+  -- two readings added at each number
+  pub sum-both : (n : ℕ) (f g : ℕ → A) → gathered join none (listed n (λ (i : ℕ). join (f i) (g i))) ≡ join (gathered join none (listed n f)) (gathered join none (listed n g))
+  sum-both n f g = total-map join none add f g (counted 0 n)
+
+  -- a reading by two numbers, summed in either order
+  pub sum-swapped : (n m : ℕ) (f : ℕ → ℕ → A)
+      → gathered join none (listed n (λ (i : ℕ). gathered join none (listed m (f i)))) ≡ gathered join none (listed m (λ (c : ℕ). gathered join none (listed n (λ (i : ℕ). f i c))))
+  unfolding counted gathered
+  sum-swapped zero m f = sym (sum-nothing m (λ (c : ℕ). none) (λ c h. refl))
+  sum-swapped (suc n) m f =
+      sum-more n (λ (i : ℕ). gathered join none (listed m (f i)))
+      ∙ ap (λ (x : A). join x (gathered join none (listed m (f n)))) (sum-swapped n m f)
+      ∙ sym (sum-both m (λ (c : ℕ). gathered join none (listed n (λ (i : ℕ). f i c))) (f n))
+      ∙ sum-same m _ _ (λ c h. sym (sum-more n (λ (i : ℕ). f i c)))
+
+  -- of what is read at one number only
+  pub sum-one : (n j : ℕ) (x : A) → j < n → gathered join none (listed n (λ (i : ℕ). cond (eqb j i) x none)) ≡ x
+  unfolding counted gathered
+  sum-one zero j x h = absurd (not-suc-le-zero h)
+  sum-one (suc n) j x h =
+      sum-more n (λ (i : ℕ). cond (eqb j i) x none)
+      ∙ ⊎-elim
+      (λ e. ap₂ join (sum-nothing n _ (λ i k. chosen-no j i x none (λ s. absurd (omega (arith, s, e, k))))) (chosen-yes j n x none e) ∙ add .unit x)
+      (λ e. ap₂ join (sum-one n j x (omega (arith, e))) (chosen-no j n x none e) ∙ add .comm x none ∙ add .unit x)
+      (same-or-not j n)
+
+  -- by classes: what is read at each number counts in the class that its key names
+  pub sum-classes : (n m : ℕ) (key : ℕ → ℕ) (f : ℕ → A) → ((i : ℕ) → i < n → key i < m)
+      → gathered join none (listed m (λ (c : ℕ). gathered join none (listed n (λ (i : ℕ). cond (eqb (key i) c) (f i) none)))) ≡ gathered join none (listed n f)
+  sum-classes n m key f below =
+      sym (sum-swapped n m (λ (i c : ℕ). cond (eqb (key i) c) (f i) none))
+      ∙ sum-same n _ f (λ i h. sum-one m (key i) (f i) (below i h))
+
+-- sums of natural numbers are ordered as what they sum
+pub sum-within : (n : ℕ) (f g : ℕ → ℕ) → ((i : ℕ) → i < n → f i ≤ g i) → total (listed n f) ≤ total (listed n g)
+unfolding counted gathered
+sum-within zero f g le = omega arith
+sum-within (suc n) f g le =
+    omega (arith, sum-more _+_ 0 naturals n f, sum-more _+_ 0 naturals n g, sum-within n f g (λ i h. le i (omega arith)), le n (omega arith))
+
+-- one of them is at most the sum
+pub sum-part : (n : ℕ) (f : ℕ → ℕ) (j : ℕ) → j < n → f j ≤ total (listed n f)
+unfolding counted gathered
+sum-part zero f j h = absurd (not-suc-le-zero h)
+sum-part (suc n) f j h =
+    let more = sum-more _+_ 0 naturals n f in
+    ⊎-elim (λ e. omega (arith, more, ap f e)) (λ e. omega (arith, more, sum-part n f j (omega (arith, e)))) (same-or-not j n)
