@@ -7,14 +7,15 @@ use mathlib.Core.Path.{_≡_, refl, sym, ap, ap₂, _∙_}
 use mathlib.Core.Bool.{Bool, true, false, cond}
 use mathlib.Core.List.{List, [], _∷_, _++_, map, map-append}
 use mathlib.Core.Logic.{_⊎_, inl, inr, ⊎-elim}
-use lib.Dec.{eqb}
-use lib.ListN.{length, getD, length-map}
+use lib.Dec.{eqb, ltb}
+use lib.ListN.{length, getD, set, length-map}
+use lib.Seq.{getD-set-same, getD-set-other}
 use borrow.Author.Tests.{eqb-true, eq-eqb, ne-eqb}
-use Rattle.numbers.specs.Lists.{counted, listed}
-use Rattle.numbers.specs.Sums.{gathered, total}
+use Rattle.numbers.specs.Lists.{counted, listed, entry, less}
+use Rattle.numbers.specs.Sums.{gathered, total, many}
 use Rattle.numbers.proofs.Sums.{Addition, naturals, total-append, total-map}
 use Rattle.numbers.proofs.Changed.{read-at}
-use Rattle.numbers.proofs.Tests.{same-or-not}
+use Rattle.numbers.proofs.Tests.{same-or-not, below-or-not}
 
 -- the numbers from a on, n of them
 pub counted-length : (a n : ℕ) → length (counted a n) ≡ n
@@ -33,6 +34,24 @@ unfolding counted
 counted-more a zero = ap (λ (m : ℕ). m ∷ []) (sym (add-zero a))
 counted-more a (suc n) = ap (λ (ms : List ℕ). a ∷ ms) (counted-more (suc a) n ∙ ap (λ (m : ℕ). counted (suc a) n ++ (m ∷ [])) (omega arith))
 
+-- past its end a list has nothing
+pub getD-past : {A : Type 0} (xs : List A) (i : ℕ) (d : A) → length xs ≤ i → getD xs i d ≡ d
+getD-past [] i d h = refl
+getD-past (x ∷ xs) zero d h = absurd (not-suc-le-zero h)
+getD-past (x ∷ xs) (suc i) d h = getD-past xs i d (le-of-suc-le-suc h)
+
+-- the first number and the others
+counted-shift : {A : Type 0} (f : ℕ → A) (a n : ℕ) → map f (counted (suc a) n) ≡ map (λ (i : ℕ). f (suc i)) (counted a n)
+unfolding counted
+counted-shift f a zero = refl
+counted-shift {A = A} f a (suc n) = ap (λ (xs : List A). f (suc a) ∷ xs) (counted-shift f (suc a) n)
+
+-- a list holds its entries
+pub listed-entries : {A : Type 0} (xs : List A) (d : A) → listed (length xs) (λ (i : ℕ). getD xs i d) ≡ xs
+unfolding counted
+listed-entries [] d = refl
+listed-entries {A = A} (x ∷ xs) d = ap (λ (ys : List A). x ∷ ys) (counted-shift (λ (i : ℕ). getD (x ∷ xs) i d) 0 (length xs) ∙ listed-entries xs d)
+
 module _ {A : Type 0} (n : ℕ) (f : ℕ → A) where
   pub listed-length : length (listed n f) ≡ n
   listed-length = length-map (counted 0 n) f ∙ counted-length 0 n
@@ -41,6 +60,16 @@ module _ {A : Type 0} (n : ℕ) (f : ℕ → A) where
   listed-at i d h =
       read-at f (counted 0 n) i 0 d (omega (arith, counted-length 0 n))
       ∙ ap f (counted-at 0 n i 0 h ∙ zero-add i)
+
+  pub listed-past : (i : ℕ) (d : A) → n ≤ i → getD (listed n f) i d ≡ d
+  listed-past i d h = getD-past (listed n f) i d (omega (arith, listed-length, h))
+
+-- what is left of an entry when some of it is taken
+pub less-at : (xs ys : List ℕ) (i : ℕ) → entry (less xs ys) i ≡ entry xs i - entry ys i
+less-at xs ys i =
+    ⊎-elim (λ (h : i < length xs). listed-at (length xs) _ i 0 h)
+    (λ (h : length xs ≤ i). listed-past (length xs) _ i 0 h ∙ omega (arith, getD-past xs i 0 h))
+    (below-or-not i (length xs))
 
 -- what is read where two numbers are the same, and where they are not
 module _ {A : Type 0} (i j : ℕ) (x y : A) where
@@ -99,6 +128,32 @@ module _ {A : Type 0} (join : A → A → A) (none : A) (add : Addition join non
       (λ e. ap₂ join (sum-one n j x (omega (arith, e))) (chosen-no j n x none e) ∙ add .comm x none ∙ add .unit x)
       (same-or-not j n)
 
+  last-two : (x y z : A) → join (join x y) z ≡ join (join x z) y
+  last-two x y z = add .assoc x y z ∙ ap (join x) (add .comm y z) ∙ sym (add .assoc x z y)
+
+  -- of what is read of the entries of a list by number, when one of them changes
+  pub sum-changed : {B : Type 0} (read : ℕ → B → A) (xs : List B) (d : B) (i : ℕ) (y : B) (n : ℕ) → i < n → n ≤ length xs
+      → join (gathered join none (listed n (λ (j : ℕ). read j (getD (set xs i y) j d)))) (read i (getD xs i d)) ≡ join (gathered join none (listed n (λ (j : ℕ). read j (getD xs j d)))) (read i y)
+  unfolding counted gathered
+  sum-changed read xs d i y zero h k = absurd (not-suc-le-zero h)
+  sum-changed {B = B} read xs d i y (suc n) h k =
+      let other : (j : ℕ) → (j ≡ i → ⊥) → read j (getD (set xs i y) j d) ≡ read j (getD xs j d) = λ j e. ap (read j) (getD-set-other xs i j y d e) in
+      ap (λ (a : A). join a (read i (getD xs i d))) (sum-more n (λ (j : ℕ). read j (getD (set xs i y) j d)))
+      ∙ ⊎-elim
+      (λ (e : i ≡ n).
+      ap₂ (λ (a b : A). join (join a b) (read i (getD xs i d)))
+      (sum-same n _ _ (λ j l. other j (λ s. absurd (omega (arith, l, s, e)))))
+      (ap (λ (m : ℕ). read m (getD (set xs i y) m d)) (sym e) ∙ ap (read i) (getD-set-same xs i y d (omega (arith, h, k))))
+      ∙ ap (λ (m : ℕ). join (join (gathered join none (listed n (λ (j : ℕ). read j (getD xs j d)))) (read i y)) (read m (getD xs m d))) e
+      ∙ last-two (gathered join none (listed n (λ (j : ℕ). read j (getD xs j d)))) (read i y) (read n (getD xs n d)))
+      (λ (e : i ≡ n → ⊥).
+      ap (λ (b : A). join (join (gathered join none (listed n (λ (j : ℕ). read j (getD (set xs i y) j d)))) b) (read i (getD xs i d))) (other n (λ s. e (sym s)))
+      ∙ last-two _ (read n (getD xs n d)) (read i (getD xs i d))
+      ∙ ap (λ (a : A). join a (read n (getD xs n d))) (sum-changed read xs d i y n (omega (arith, h, e)) (omega (arith, k)))
+      ∙ last-two _ (read i y) (read n (getD xs n d)))
+      (same-or-not i n)
+      ∙ ap (λ (a : A). join a (read i y)) (sym (sum-more n (λ (j : ℕ). read j (getD xs j d))))
+
   -- by classes: what is read at each number counts in the class that its key names
   pub sum-classes : (n m : ℕ) (key : ℕ → ℕ) (f : ℕ → A) → ((i : ℕ) → i < n → key i < m)
       → gathered join none (listed m (λ (c : ℕ). gathered join none (listed n (λ (i : ℕ). cond (eqb (key i) c) (f i) none)))) ≡ gathered join none (listed n f)
@@ -120,3 +175,15 @@ sum-part zero f j h = absurd (not-suc-le-zero h)
 sum-part (suc n) f j h =
     let more = sum-more _+_ 0 naturals n f in
     ⊎-elim (λ e. omega (arith, more, ap f e)) (λ e. omega (arith, more, sum-part n f j (omega (arith, e)))) (same-or-not j n)
+
+-- a list's sum is that of its entries by number
+pub total-entries : (xs : List ℕ) → total (listed (length xs) (entry xs)) ≡ total xs
+total-entries xs = ap total (listed-entries xs 0)
+
+-- where a sum is 0, each of what it sums is
+pub sum-empty : (n : ℕ) (f : ℕ → ℕ) → total (listed n f) ≡ 0 → (i : ℕ) → i < n → f i ≡ 0
+sum-empty n f e i h = omega (arith, e, sum-part n f i h)
+
+-- how many of the first n entries are above 0
+pub live : ℕ → (ℕ → ℕ) → ℕ
+live n f = many n (λ (i : ℕ). ltb 0 (f i))
