@@ -184,6 +184,6 @@ total-entries xs = ap total (listed-entries xs 0)
 pub sum-empty : (n : ℕ) (f : ℕ → ℕ) → total (listed n f) ≡ 0 → (i : ℕ) → i < n → f i ≡ 0
 sum-empty n f e i h = omega (arith, e, sum-part n f i h)
 
--- how many of the first n entries are above 0
-pub live : ℕ → (ℕ → ℕ) → ℕ
+-- at how many of the numbers below n more than 0 is read
+abbrev pub live : ℕ → (ℕ → ℕ) → ℕ
 live n f = many n (λ (i : ℕ). ltb 0 (f i))

@@ -1,0 +1,4 @@
+pub mod Greedy
+pub mod StageOne
+pub mod StageTwo
+pub mod Drawing
