@@ -2,3 +2,6 @@ pub mod Greedy
 pub mod StageOne
 pub mod StageTwo
 pub mod Drawing
+pub mod Sides
+pub mod Steps
+pub mod Across

@@ -1,0 +1,181 @@
+-- Steps 1 to 4: what is delivered is even over all codes, what stays inside is even in each code, and what goes outside is even.
+use Prim.Native.Nat.{ℕ, zero, suc, _+_, _-_, _≤_, _<_, min}
+use native.Mathlib.Omega.{arith}
+use mathlib.Core.Path.{_≡_, refl, sym, ap, ap₂, subst, _∙_}
+use mathlib.Core.Bool.{Bool, true, false, not, cond, _&&_, _||_}
+use mathlib.Core.List.{List, [], map, map-map}
+use mathlib.Core.Logic.{_⊎_, inl, inr, ⊎-elim}
+use lib.Dec.{eqb, ltb}
+use lib.ListN.{length, getD, length-map}
+use lib.IntN.{ℤ, pos, negsuc, negℤ, natAbs, _+ℤ_, _-ℤ_}
+use borrow.Author.Tests.{lt-ltb, le-ltb, ltb-true, ltb-false}
+use Rattle.numbers.specs.Lists.{_and_, counted, listed, entry, entryℤ, less}
+use Rattle.numbers.specs.Sums.{total, totalℤ}
+use Rattle.numbers.proofs.Whole.{plus, minus, ext, sum, difference, size, ltZ-sides}
+use Rattle.numbers.proofs.Sums.{naturals, wholes}
+use Rattle.numbers.proofs.Changed.{read-at}
+use Rattle.numbers.proofs.Ranges.{listed-at, listed-past, listed-length, listed-entries, less-at, getD-past, total-entries, sum-same, sum-both, sum-classes, sum-within, sum-nothing, sum-empty}
+use Rattle.numbers.proofs.Tests.{below-or-not}
+use Rattle.rules.specs.declared.book.Section.{Section}
+use Rattle.rules.specs.declared.book.Notice.{Notice}
+use Rattle.rules.specs.Book.{positionOf, sectionOf}
+use Rattle.rules.specs.Expiry.{isLong, isShort, opposed, agreed, onSideOf, netOfCode, chosen, inOrder, taken}
+use Rattle.rules.specs.Expiry
+use Rattle.rules.specs.Expiry.Failing.{fails, failing}
+use Rattle.rules.specs.Expiry.Codes.{gaps, givenInCodes}
+use Rattle.rules.specs.Expiry.Across.{leftOpen, codeCaps, givenAcross}
+use Rattle.rules.specs.Expiry.Outside.{outside}
+use Rattle.rules.specs.Expiry.Call.{delivered}
+use Rattle.delivery.proofs.Greedy.{ofCode, Given, given, given-by-code}
+use Rattle.delivery.proofs.Sides.{lotsOf, sideOf, allOf, Within, lots-less, side-classes, net-sides, code-sides, sum-difference, on-side, chosen-within}
+
+-- one of a whole number's two sides is 0
+one-side : (z : ℤ) → (plus z ≡ 0) ⊎ (minus z ≡ 0)
+one-side (pos n) = inr refl
+one-side (negsuc n) = inl refl
+
+-- two comparisons of the same outcome
+ltb-as : (a b c d : ℕ) → (c < d → a < b) → (d ≤ c → b ≤ a) → ltb a b ≡ ltb c d
+ltb-as a b c d yes′ no′ = go (ltb c d) refl
+  where
+    go : (t : Bool) → ltb c d ≡ t → ltb a b ≡ t
+    go true e = lt-ltb a b (yes′ (ltb-true c d e))
+    go false e = le-ltb a b (no′ (ltb-false c d e))
+
+-- the sign and the size of a difference of natural numbers
+module _ (x y : ℕ) where
+  difference-size : natAbs (pos x -ℤ pos y) ≡ (x - y) + (y - x)
+  difference-size =
+      let z = pos x -ℤ pos y in
+      ⊎-elim (λ e. omega (arith, size z, difference (pos x) (pos y), e)) (λ e. omega (arith, size z, difference (pos x) (pos y), e)) (one-side z)
+
+  difference-long : isLong (pos x -ℤ pos y) ≡ ltb y x
+  difference-long =
+      let z = pos x -ℤ pos y in
+      ltZ-sides (pos 0) z ∙ ltb-as (0 + minus z) (plus z + 0) y x (λ h. omega (arith, difference (pos x) (pos y), h)) (λ h. omega (arith, difference (pos x) (pos y), h))
+
+  difference-short : isShort (pos x -ℤ pos y) ≡ ltb x y
+  difference-short =
+      let z = pos x -ℤ pos y in
+      ltZ-sides z (pos 0) ∙ ltb-as (plus z + 0) (0 + minus z) x y (λ h. omega (arith, difference (pos x) (pos y), h)) (λ h. omega (arith, difference (pos x) (pos y), h))
+
+-- a section's lots are its position's size
+sizes-at : (ss : List Section) (i : ℕ) → entry (map Expiry.size ss) i ≡ Expiry.size (sectionOf ss i)
+sizes-at ss i =
+    ⊎-elim (λ (h : i < length ss). read-at Expiry.size ss i _ 0 h)
+    (λ (h : length ss ≤ i). getD-past (map Expiry.size ss) i 0 (omega (arith, length-map ss Expiry.size, h)) ∙ sym (ap Expiry.size (getD-past ss i _ h)))
+    (below-or-not i (length ss))
+
+-- the positions' sum is the long lots less the short ones
+positions-sides : (ss : List Section) → totalℤ (map positionOf ss) ≡ pos (allOf ss isLong (map Expiry.size ss)) -ℤ pos (allOf ss isShort (map Expiry.size ss))
+positions-sides ss =
+    ap (λ (ts : List Section). totalℤ (map positionOf ts)) (sym (listed-entries ss _))
+    ∙ ap totalℤ (map-map positionOf (sectionOf ss) (counted 0 (length ss)))
+    ∙ sum-same _+ℤ_ (pos 0) wholes (length ss) _ _ (λ i h. whole (positionOf (sectionOf ss i)) ∙ on-side (positionOf (sectionOf ss i)) (Expiry.size (sectionOf ss i)) (omega arith) ∙ ap (λ (x : ℕ). pos (cond (isLong (positionOf (sectionOf ss i))) x 0) -ℤ pos (cond (isShort (positionOf (sectionOf ss i))) x 0)) (sym (sizes-at ss i)))
+    ∙ sum-difference (length ss) _ _
+  where
+    whole : (p : ℤ) → p ≡ onSideOf p (natAbs p)
+    whole (pos n) = refl
+    whole (negsuc n) = refl
+
+module _ (ss : List Section) (ns : List Notice) (codes : (i : ℕ) → i < length ss → sectionOf ss i .settlement < 64) (even : totalℤ (map positionOf ss) ≡ pos 0) where
+  -- the steps' lists, as `delivered` has them
+  abbrev sizes : List ℕ
+  sizes = map Expiry.size ss
+
+  abbrev failed : List ℕ
+  failed = failing ss ns
+
+  abbrev sound : List ℕ
+  sound = less sizes failed
+
+  abbrev gap : List ℤ
+  gap = gaps ss failed
+
+  abbrev inCodes : List ℕ
+  inCodes = givenInCodes ss gap sound
+
+  abbrev left : List ℕ
+  left = less sound inCodes
+
+  abbrev open′ : ℤ
+  open′ = leftOpen ss gap inCodes
+
+  abbrev across : List ℕ
+  across = givenAcross ss open′ left
+
+  failed-within : (i : ℕ) → entry failed i ≤ entry sizes i
+  unfolding failing
+  failed-within i =
+      ⊎-elim (λ (h : i < length ss). subst (λ (m : ℕ). m ≤ entry sizes i) (sym (listed-at (length ss) _ i 0 h)) (subst (λ (m : ℕ). cond (fails ss ns i) (Expiry.size (sectionOf ss i)) 0 ≤ m) (sym (sizes-at ss i)) (go (fails ss ns i))))
+      (λ (h : length ss ≤ i). omega (arith, listed-past (length ss) (λ (j : ℕ). cond (fails ss ns j) (Expiry.size (sectionOf ss j)) 0) i 0 h))
+      (below-or-not i (length ss))
+    where
+      go : (t : Bool) → cond t (Expiry.size (sectionOf ss i)) 0 ≤ Expiry.size (sectionOf ss i)
+      go true = omega arith
+      go false = omega arith
+
+  in-codes-within : (i : ℕ) → entry inCodes i ≤ entry sound i
+  unfolding givenInCodes
+  in-codes-within i =
+      let lots = chosen ss (λ (s : Section). opposed (positionOf s) (entryℤ gap (s .settlement))) sound in
+      omega (arith, given ss lots ltb (map natAbs gap) (total (map natAbs gap)) .each i, chosen-within ss (λ (s : Section). opposed (positionOf s) (entryℤ gap (s .settlement))) sound i)
+
+  across-given : Given ss (chosen ss (λ (s : Section). opposed (positionOf s) open′) left) (codeCaps ss open′ left) (natAbs open′) across
+  unfolding givenAcross
+  across-given = given ss (chosen ss (λ (s : Section). opposed (positionOf s) open′) left) ltb (codeCaps ss open′ left) (natAbs open′)
+
+  across-within : (i : ℕ) → entry across i ≤ entry left i
+  across-within i = omega (arith, across-given .each i, chosen-within ss (λ (s : Section). opposed (positionOf s) open′) left i)
+
+  within-failed : Within ss failed
+  unfolding Within
+  within-failed i = omega (arith, failed-within i, sizes-at ss i)
+
+  within-sound : Within ss sound
+  unfolding Within
+  within-sound i = omega (arith, less-at sizes failed i, sizes-at ss i)
+
+  within-in-codes : Within ss inCodes
+  unfolding Within
+  within-in-codes i = omega (arith, in-codes-within i, less-at sizes failed i, sizes-at ss i)
+
+  pub within-left : Within ss left
+  unfolding Within
+  within-left i = omega (arith, less-at sound inCodes i, less-at sizes failed i, sizes-at ss i)
+
+  -- on each side, what fails, what is given in the codes and what is left make up all lots
+  made-up : (side : ℤ → Bool) → allOf ss side failed + allOf ss side inCodes + allOf ss side left ≡ allOf ss side sizes
+  made-up side =
+      omega (arith, lots-less ss (λ (s : Section). side (positionOf s)) sizes failed failed-within, lots-less ss (λ (s : Section). side (positionOf s)) sound inCodes in-codes-within)
+
+  sizes-even : allOf ss isLong sizes ≡ allOf ss isShort sizes
+  sizes-even =
+      let e : pos (allOf ss isLong sizes) -ℤ pos (allOf ss isShort sizes) ≡ pos 0 = sym (positions-sides ss) ∙ even in
+      omega (arith, difference (pos (allOf ss isLong sizes)) (pos (allOf ss isShort sizes)), ap plus e, ap minus e)
+
+  -- what is left open, by its two sides
+  open-sides : open′ ≡ pos (allOf ss isLong failed + allOf ss isLong inCodes) -ℤ pos (allOf ss isShort failed + allOf ss isShort inCodes)
+  unfolding leftOpen gaps Within
+  open-sides =
+      sum-same _+ℤ_ (pos 0) wholes 64 _ _ (λ c h. ap₂ _+ℤ_ (listed-at 64 (netOfCode ss failed) c (pos 0) h ∙ net-sides ss failed within-failed c) (net-sides ss inCodes within-in-codes c) ∙ paired-difference (sideOf ss isLong c failed) (sideOf ss isShort c failed) (sideOf ss isLong c inCodes) (sideOf ss isShort c inCodes))
+      ∙ sum-difference 64 _ _
+      ∙ ap₂ (λ (x y : ℕ). pos x -ℤ pos y) (two-classes isLong) (two-classes isShort)
+    where
+      paired-difference : (a b c d : ℕ) → (pos a -ℤ pos b) +ℤ (pos c -ℤ pos d) ≡ pos (a + c) -ℤ pos (b + d)
+      paired-difference a b c d =
+          ext _ _ (omega (arith, difference (pos a) (pos b), difference (pos c) (pos d), sum (pos a -ℤ pos b) (pos c -ℤ pos d), difference (pos (a + c)) (pos (b + d))))
+      two-classes : (side : ℤ → Bool) → total (listed 64 (λ (c : ℕ). sideOf ss side c failed + sideOf ss side c inCodes)) ≡ allOf ss side failed + allOf ss side inCodes
+      two-classes side = sum-both _+_ 0 naturals 64 _ _ ∙ ap₂ _+_ (side-classes ss side failed codes) (side-classes ss side inCodes codes)
+
+  -- so what is left is even but for what is open
+  left-open : allOf ss isShort left + (allOf ss isShort failed + allOf ss isShort inCodes) ≡ allOf ss isLong left + (allOf ss isLong failed + allOf ss isLong inCodes)
+  left-open = omega (arith, made-up isLong, made-up isShort, sizes-even)
+
+  -- step 3 closes exactly what is open. `mine` is the side that gives, `other` the side of what is open
+  module _ (mine other : ℤ → Bool) (faced : (p : ℤ) → opposed p open′ ≡ mine p) (net-cap : (c : ℕ) → c < 64 → entry (codeCaps ss open′ left) c ≡ sideOf ss mine c left - sideOf ss other c left) (more : natAbs open′ + allOf ss other left ≡ allOf ss mine left) where
+    lots : List ℕ
+    lots = chosen ss (λ (s : Section). opposed (positionOf s) open′) left
+
+    across-total : total across ≡ natAbs open′
+    across-total = ?
