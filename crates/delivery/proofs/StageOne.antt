@@ -131,6 +131,13 @@ module _ (buyers elevators : List ℕ) (b e amount : ℕ) (some : 0 < amount) (o
       (λ (h : entry elevators e ≡ amount). omega (arith, off-ended elevators e amount some of-elevator h, off-fewer buyers b amount some of-buyer))
       ends
 
+  few-more : (ps : List Pair) → (ps ≡ []) ⊎ (length ps + 1 ≤ lives buyers′ elevators′) → suc (length ps) + 1 ≤ lives buyers elevators
+  few-more ps few =
+      ⊎-elim
+      (λ (h : ps ≡ []). omega (arith, ap length h, live-some buyers b amount some of-buyer, live-some elevators e amount some of-elevator))
+      (λ (h : length ps + 1 ≤ lives buyers′ elevators′). omega (arith, h, left-lives))
+      few
+
   paired-more : (ps : List Pair) → Paired buyers′ elevators′ ps → Paired buyers elevators (record { buyer = b; elevator = e; lots = amount } ∷ ps)
   unfolding gathered every
   paired-more ps rest =
@@ -138,12 +145,7 @@ module _ (buyers elevators : List ℕ) (b e amount : ℕ) (some : 0 < amount) (o
         by-buyer = λ c. ap (λ (n : ℕ). cond (eqb b c) amount 0 + n) (rest .by-buyer c) ∙ off-entry buyers b amount some of-buyer c;
         by-elevator = λ c. ap (λ (n : ℕ). cond (eqb e c) amount 0 + n) (rest .by-elevator c) ∙ off-entry elevators e amount some of-elevator c;
         above-nothing = together (lt-ltb 0 amount some) (rest .above-nothing);
-        few = inr (
-            ⊎-elim
-            (λ (h : ps ≡ []). omega (arith, ap length h, live-some buyers b amount some of-buyer, live-some elevators e amount some of-elevator))
-            (λ (h : length ps + 1 ≤ lives buyers′ elevators′). omega (arith, h, left-lives))
-            (rest .few)
-            );
+        few = inr (few-more ps (rest .few));
       }
 
 -- stage one pairs all lots, where buyers and elevators have as many and there are turns enough
@@ -171,7 +173,9 @@ paired ss (suc turns) buyers elevators even enough = go (eqb amount 0) refl (pai
     elevators-left = set elevators e (entry elevators e - amount)
 
     ends : (entry buyers b ≡ amount) ⊎ (entry elevators e ≡ amount)
-    ends = ⊎-elim (λ (h : entry buyers b < entry elevators e). inl (omega (arith, h))) (λ (h : entry elevators e ≤ entry buyers b). inr (omega (arith, h))) (below-or-not (entry buyers b) (entry elevators e))
+    ends =
+        ⊎-elim (λ (h : entry buyers b < entry elevators e). inl (omega (arith, h))) (λ (h : entry elevators e ≤ entry buyers b). inr (omega (arith, h)))
+        (below-or-not (entry buyers b) (entry elevators e))
 
     nothing : amount ≡ 0 → Paired buyers elevators []
     nothing zero-amount =
