@@ -5,3 +5,4 @@ pub mod Drawing
 pub mod Sides
 pub mod Steps
 pub mod Across
+pub mod Elevators

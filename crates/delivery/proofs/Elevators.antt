@@ -1,0 +1,40 @@
+-- What is drawn of the notices, summed at each elevator.
+use Prim.Native.Nat.{ℕ, _+_, _≤_, _<_}
+use native.Mathlib.Omega.{arith}
+use mathlib.Core.Path.{_≡_, sym, ap, _∙_}
+use mathlib.Core.List.{List}
+use mathlib.Core.Logic.{⊎-elim}
+use lib.ListN.{length}
+use Rattle.numbers.specs.Lists.{entry, listed}
+use Rattle.numbers.specs.Sums.{total}
+use Rattle.numbers.proofs.Sums.{naturals}
+use Rattle.numbers.proofs.Tests.{below-or-not}
+use Rattle.numbers.proofs.Ranges.{listed-length, listed-at, listed-past, chosen-no, sum-nothing, sum-classes, total-entries}
+use Rattle.rules.specs.declared.book.Notice.{Notice}
+use Rattle.rules.specs.Book.{noticeOf}
+use Rattle.rules.specs.Expiry.Passes.{offers, elevatorLots}
+
+module _ (ns : List Notice) (drawn : List ℕ) where
+  -- there are 32 elevators
+  pub elevators-length : length (elevatorLots ns drawn) ≡ 32
+  unfolding elevatorLots
+  elevators-length = listed-length 32 (λ (e : ℕ). total (offers ns drawn e))
+
+  -- the elevators have all that is drawn
+  pub elevators-total : ((k : ℕ) → k < length ns → noticeOf ns k .elevator < 32) → length drawn ≡ length ns → total (elevatorLots ns drawn) ≡ total drawn
+  unfolding elevatorLots
+  elevators-total below long =
+      sum-classes _+_ 0 naturals (length ns) 32 (λ (k : ℕ). noticeOf ns k .elevator) (entry drawn) below
+      ∙ ap (λ (n : ℕ). total (listed n (entry drawn))) (sym long)
+      ∙ total-entries drawn
+
+  -- an elevator has what is drawn of the notices that stand there; past the 32 none stands
+  pub elevators-at : (e : ℕ) → ((k : ℕ) → k < length ns → noticeOf ns k .elevator < 32) → entry (elevatorLots ns drawn) e ≡ total (offers ns drawn e)
+  unfolding elevatorLots
+  elevators-at e below =
+      ⊎-elim
+      (λ (h : e < 32). listed-at 32 (λ (c : ℕ). total (offers ns drawn c)) e 0 h)
+      (λ (h : 32 ≤ e).
+      listed-past 32 (λ (c : ℕ). total (offers ns drawn c)) e 0 h
+      ∙ sym (sum-nothing _+_ 0 naturals (length ns) _ (λ k l. chosen-no (noticeOf ns k .elevator) e (entry drawn k) 0 (λ s. absurd (omega (arith, h, s, below k l))))))
+      (below-or-not e 32)
