@@ -6,3 +6,6 @@ pub mod Sides
 pub mod Steps
 pub mod Across
 pub mod Elevators
+pub mod Formed
+pub mod Register
+pub mod Count

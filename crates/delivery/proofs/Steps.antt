@@ -165,6 +165,7 @@ module _ (ss : List Section) (ns : List Notice) (codes : (i : ℕ) → i < lengt
       paired-difference : (a b c d : ℕ) → (pos a -ℤ pos b) +ℤ (pos c -ℤ pos d) ≡ pos (a + c) -ℤ pos (b + d)
       paired-difference a b c d =
           ext _ _ (omega (arith, difference (pos a) (pos b), difference (pos c) (pos d), sum (pos a -ℤ pos b) (pos c -ℤ pos d), difference (pos (a + c)) (pos (b + d))))
+
       two-classes : (side : ℤ → Bool) → total (listed 64 (λ (c : ℕ). sideOf ss side c failed + sideOf ss side c inCodes)) ≡ allOf ss side failed + allOf ss side inCodes
       two-classes side = sum-both _+_ 0 naturals 64 _ _ ∙ ap₂ _+_ (side-classes ss side failed codes) (side-classes ss side inCodes codes)
 
