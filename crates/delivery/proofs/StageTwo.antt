@@ -9,7 +9,7 @@ use mathlib.Core.Logic.{_⊎_, inl, inr, ⊎-elim}
 use lib.Dec.{eqb, ltb}
 use lib.ListN.{length, getD, set, length-set, length-map, List·getD-map}
 use lib.Seq.{getD-set-same, getD-set-other}
-use borrow.Author.Tests.{ltb-true, ltb-false, lt-ltb, eqb-true, eqb-false}
+use borrow.Author.Tests.{lt-ltb, eqb-true, eqb-false}
 use Rattle.numbers.specs.Lists.{entry, listed, largest}
 use Rattle.numbers.specs.Sums.{gathered, total, many}
 use Rattle.numbers.proofs.Ranges.{live, listed-at, listed-past, listed-length, getD-past, chosen-yes, chosen-no, sum-same, sum-nothing, sum-changed, sum-part, sum-empty, total-entries}
@@ -47,12 +47,14 @@ sum-apart : (n : ℕ) (f g : ℕ → ℕ) (j : ℕ) → j < n → ((i : ℕ) →
 sum-apart n f g j h same =
     let there : j < length (listed n f) = omega (arith, h, listed-length n f) in
     let changed = sum-changed _+_ 0 naturals (λ (i v : ℕ). v) (listed n f) 0 j (g j) n h (omega (arith, listed-length n f)) in
-    let new = sum-same _+_ 0 naturals n (λ (i : ℕ). entry (set (listed n f) j (g j)) i) g (λ i l.
+    let at : (i : ℕ) → i < n → entry (set (listed n f) j (g j)) i ≡ g i =
+    λ i l.
     ⊎-elim
     (λ (e : i ≡ j). ap (entry (set (listed n f) j (g j))) e ∙ getD-set-same (listed n f) j (g j) 0 there ∙ ap g (sym e))
     (λ (e : i ≡ j → ⊥). getD-set-other (listed n f) j i (g j) 0 e ∙ listed-at n f i 0 l ∙ same i l e)
-    (same-or-not i j))
+    (same-or-not i j)
     in
+    let new = sum-same _+_ 0 naturals n (entry (set (listed n f) j (g j))) g at in
     let old = sum-same _+_ 0 naturals n (entry (listed n f)) f (λ i l. listed-at n f i 0 l) in
     omega (arith, changed, new, old, listed-at n f j 0 h)
 
@@ -121,12 +123,26 @@ split-off false all part h = omega arith
 abbrev noPair : Pair
 noPair = record { buyer = 0; elevator = 0; lots = 0 }
 
--- what is left of the pairs and of what is drawn when an amount is taken off a pair and off a notice
+-- what is left of a pair, of the pairs and of what is drawn when an amount is taken off a pair and off a notice
+abbrev pairLess : Pair → ℕ → Pair
+pairLess q amount = record { buyer = q .buyer; elevator = q .elevator; lots = q .lots - amount }
+
 abbrev pairsLeft : List Pair → ℕ → ℕ → List Pair
-pairsLeft ps p amount = set ps p (record { buyer = pairOf ps p .buyer; elevator = pairOf ps p .elevator; lots = pairOf ps p .lots - amount })
+pairsLeft ps p amount = set ps p (pairLess (pairOf ps p) amount)
 
 abbrev drawnLeft : List ℕ → ℕ → ℕ → List ℕ
 drawnLeft drawn k amount = set drawn k (entry drawn k - amount)
+
+-- the lots of the pairs whose buyer and elevator pass a test, and what is drawn of the notices whose number does
+abbrev lotsBy : (ℕ → ℕ → Bool) → List Pair → ℕ
+lotsBy test = pairLots (λ (q : Pair). test (q .buyer) (q .elevator))
+
+abbrev drawnBy : List Notice → (ℕ → Bool) → List ℕ → ℕ
+drawnBy ns test drawn = total (listed (length ns) (λ (j : ℕ). cond (test j) (entry drawn j) 0))
+
+-- what is drawn of a notice at an elevator
+abbrev offer : List Notice → List ℕ → ℕ → ℕ → ℕ
+offer ns drawn e j = cond (eqb (noticeOf ns j .elevator) e) (entry drawn j) 0
 
 -- the pairs' lots at each elevator are what is drawn there
 abbrev Even : List Notice → List Pair → List ℕ → Type 0
@@ -147,16 +163,16 @@ record Turn (ns : List Notice) (ps : List Pair) (drawn : List ℕ) (p k amount :
 
 module _ {ns : List Notice} {ps : List Pair} {drawn : List ℕ} {p k amount : ℕ} (turn : Turn ns ps drawn p k amount) where
   -- the amount is taken off the pairs' lots and off the notices'
-  pairs-fall : (test : ℕ → ℕ → Bool) → cond (test (pairOf ps p .buyer) (pairOf ps p .elevator)) amount 0 + pairLots (λ (q : Pair). test (q .buyer) (q .elevator)) (pairsLeft ps p amount) ≡ pairLots (λ (q : Pair). test (q .buyer) (q .elevator)) ps
+  pairs-fall : (test : ℕ → ℕ → Bool) → cond (test (pairOf ps p .buyer) (pairOf ps p .elevator)) amount 0 + lotsBy test (pairsLeft ps p amount) ≡ lotsBy test ps
   pairs-fall test =
       let f : Pair → ℕ = λ (q : Pair). cond (test (q .buyer) (q .elevator)) (q .lots) 0 in
       omega (
         arith,
-        total-read-set _+_ 0 naturals f ps p (record { buyer = pairOf ps p .buyer; elevator = pairOf ps p .elevator; lots = pairOf ps p .lots - amount }) noPair (turn .pair-place),
+        total-read-set _+_ 0 naturals f ps p (pairLess (pairOf ps p) amount) noPair (turn .pair-place),
         split-off (test (pairOf ps p .buyer) (pairOf ps p .elevator)) (pairOf ps p .lots) amount (turn .of-pair),
       )
 
-  drawn-falls : (test : ℕ → Bool) → cond (test k) amount 0 + total (listed (length ns) (λ (j : ℕ). cond (test j) (entry (drawnLeft drawn k amount) j) 0)) ≡ total (listed (length ns) (λ (j : ℕ). cond (test j) (entry drawn j) 0))
+  drawn-falls : (test : ℕ → Bool) → cond (test k) amount 0 + drawnBy ns test (drawnLeft drawn k amount) ≡ drawnBy ns test drawn
   drawn-falls test =
       omega (
         arith,
@@ -177,7 +193,7 @@ module _ {ns : List Notice} {ps : List Pair} {drawn : List ℕ} {p k amount : �
   long-left : length (drawnLeft drawn k amount) ≡ length ns
   long-left = length-set drawn k (entry drawn k - amount) ∙ turn .long
 
-  -- what is left of the pair, and of the notice, is at their elevator, where what was there has fallen
+  -- what is left at the elevator of the pair and the notice: no less than what is left of the one, or of the other
   left-there : ℕ
   left-there = total (offers ns (drawnLeft drawn k amount) (pairOf ps p .elevator))
 
@@ -185,7 +201,7 @@ module _ {ns : List Notice} {ps : List Pair} {drawn : List ℕ} {p k amount : �
   unfolding left-there
   pair-there =
       let e = pairOf ps p .elevator in
-      let new : Pair = record { buyer = pairOf ps p .buyer; elevator = e; lots = pairOf ps p .lots - amount } in
+      let new = pairLess (pairOf ps p) amount in
       let f : Pair → ℕ = λ (q : Pair). cond (eqb (q .elevator) e) (q .lots) 0 in
       omega (
         arith,
@@ -201,12 +217,12 @@ module _ {ns : List Notice} {ps : List Pair} {drawn : List ℕ} {p k amount : �
       let e = pairOf ps p .elevator in
       omega (
         arith,
-        sum-part (length ns) (λ (j : ℕ). cond (eqb (noticeOf ns j .elevator) e) (entry (drawnLeft drawn k amount) j) 0) k (turn .notice-place),
+        sum-part (length ns) (offer ns (drawnLeft drawn k amount) e) k (turn .notice-place),
         chosen-yes (noticeOf ns k .elevator) e (entry (drawnLeft drawn k amount) k) 0 (turn .there),
         getD-set-same drawn k (entry drawn k - amount) 0 (omega (arith, turn .long, turn .notice-place)),
       )
 
-  -- the pair ends, or the notice does, and where both go on the elevator does
+  -- the pair ends or the notice does, and where the other goes on, so does their elevator
   one-ends : alive (pairOf ps p .lots - amount) + alive (entry drawn k - amount) ≤ alive left-there
   one-ends =
       let pair = alive-more (pairOf ps p .lots - amount) left-there pair-there in
@@ -216,9 +232,10 @@ module _ {ns : List Notice} {ps : List Pair} {drawn : List ℕ} {p k amount : �
       (λ (h : amount ≡ entry drawn k). omega (arith, pair, alive-no (entry drawn k - amount) (omega (arith, h))))
       (turn .ends)
 
+  -- how many pairs, notices and elevators go on
   pairs-live : livePairs (pairsLeft ps p amount) + 1 ≡ livePairs ps + alive (pairOf ps p .lots - amount)
   pairs-live =
-      let new : Pair = record { buyer = pairOf ps p .buyer; elevator = pairOf ps p .elevator; lots = pairOf ps p .lots - amount } in
+      let new = pairLess (pairOf ps p) amount in
       omega (
         arith,
         ap (λ (n : ℕ). live n (λ (i : ℕ). pairOf (pairsLeft ps p amount) i .lots)) (length-set ps p new),
@@ -238,10 +255,11 @@ module _ {ns : List Notice} {ps : List Pair} {drawn : List ℕ} {p k amount : �
   unfolding left-there
   elevators-live =
       let e = pairOf ps p .elevator in
-      let falls : (f : ℕ) → cond (eqb (noticeOf ns k .elevator) f) amount 0 + total (offers ns (drawnLeft drawn k amount) f) ≡ total (offers ns drawn f) = λ f. drawn-falls (λ (j : ℕ). eqb (noticeOf ns j .elevator) f) in
+      let left = drawnLeft drawn k amount in
+      let falls : (f : ℕ) → cond (eqb (noticeOf ns k .elevator) f) amount 0 + total (offers ns left f) ≡ total (offers ns drawn f) = λ f. drawn-falls (λ (j : ℕ). eqb (noticeOf ns j .elevator) f) in
       omega (
         arith,
-        live-apart 32 (λ (f : ℕ). total (offers ns drawn f)) (λ (f : ℕ). total (offers ns (drawnLeft drawn k amount) f)) e (omega (arith, turn .elevator-place, turn .there))
+        live-apart 32 (λ (f : ℕ). total (offers ns drawn f)) (λ (f : ℕ). total (offers ns left f)) e (omega (arith, turn .elevator-place, turn .there))
             (λ f l other. omega (arith, falls f, chosen-no (noticeOf ns k .elevator) f amount 0 (λ s. other (sym s ∙ turn .there)))),
         alive-yes (total (offers ns drawn e)) (omega (arith, turn .above, falls e, chosen-yes (noticeOf ns k .elevator) e amount 0 (turn .there))),
       )
@@ -263,7 +281,7 @@ module _ {ns : List Notice} {ps : List Pair} {drawn : List ℕ} {p k amount : �
         few = omega (arith, rest .few, one-ends, pairs-live, drawn-live, elevators-live);
       }
 
--- where nothing is left there is no line
+-- where nothing is left nothing is read, and there is no line
 nothing-read : (t : Bool) (v : ℕ) → v ≡ 0 → cond t v 0 ≡ 0
 nothing-read true v e = e
 nothing-read false v e = refl
@@ -271,7 +289,8 @@ nothing-read false v e = refl
 pairs-none : (test : Pair → Bool) (ps : List Pair) → ((p : ℕ) → p < length ps → pairOf ps p .lots ≡ 0) → pairLots test ps ≡ 0
 pairs-none test ps none = total-nothing (λ (q : Pair). cond (test q) (q .lots) 0) noPair ps (λ p h. nothing-read (test (pairOf ps p)) (pairOf ps p .lots) (none p h))
 
-lined-none : (ns : List Notice) (ps : List Pair) (drawn : List ℕ) → ((p : ℕ) → p < length ps → pairOf ps p .lots ≡ 0) → ((k : ℕ) → k < length ns → entry drawn k ≡ 0) → Lined ns ps drawn []
+lined-none : (ns : List Notice) (ps : List Pair) (drawn : List ℕ)
+    → ((p : ℕ) → p < length ps → pairOf ps p .lots ≡ 0) → ((k : ℕ) → k < length ns → entry drawn k ≡ 0) → Lined ns ps drawn []
 unfolding gathered
 lined-none ns ps drawn no-pair no-notice =
     record {
@@ -280,7 +299,7 @@ lined-none ns ps drawn no-pair no-notice =
       few = omega (arith, live-nothing 32 (λ (e : ℕ). total (offers ns drawn e)) (λ e h. nothing (λ (k : ℕ). eqb (noticeOf ns k .elevator) e)));
     }
   where
-    nothing : (test : ℕ → Bool) → total (listed (length ns) (λ (k : ℕ). cond (test k) (entry drawn k) 0)) ≡ 0
+    nothing : (test : ℕ → Bool) → drawnBy ns test drawn ≡ 0
     nothing test = sum-nothing _+_ 0 naturals (length ns) (λ (k : ℕ). cond (test k) (entry drawn k) 0) (λ k h. nothing-read (test k) (entry drawn k) (no-notice k h))
 
 -- The pair and the notice that a turn takes
@@ -317,7 +336,28 @@ module _ (ss : List Section) (ns : List Notice) (ps : List Pair) (drawn : List �
   -- a pair with lots has a place
   pair-held : 0 < pairOf ps takenPair .lots → takenPair < length ps
   pair-held h =
-      ⊎-elim (λ (l : takenPair < length ps). l) (λ (l : length ps ≤ takenPair). absurd (omega (arith, h, ap (λ (q : Pair). q .lots) (getD-past ps takenPair noPair l)))) (below-or-not takenPair (length ps))
+      ⊎-elim (λ (l : takenPair < length ps). l)
+      (λ (l : length ps ≤ takenPair). absurd (omega (arith, h, ap (λ (q : Pair). q .lots) (getD-past ps takenPair noPair l))))
+      (below-or-not takenPair (length ps))
+
+  -- a notice with lots to offer has a place and stands at the pair's elevator, and offers all that is drawn of it
+  notice-held : 0 < entry (offers ns drawn takenAt) takenNotice → takenNotice < length ns
+  notice-held h =
+      ⊎-elim (λ (l : takenNotice < length ns). l)
+      (λ (l : length ns ≤ takenNotice). absurd (omega (arith, h, listed-past (length ns) (offer ns drawn takenAt) takenNotice 0 l)))
+      (below-or-not takenNotice (length ns))
+
+  notice-at : 0 < entry (offers ns drawn takenAt) takenNotice → noticeOf ns takenNotice .elevator ≡ takenAt
+  notice-at h =
+      let read = listed-at (length ns) (offer ns drawn takenAt) takenNotice 0 (notice-held h) in
+      ⊎-elim (λ (s : noticeOf ns takenNotice .elevator ≡ takenAt). s)
+      (λ (s : noticeOf ns takenNotice .elevator ≡ takenAt → ⊥). absurd (omega (arith, h, read, chosen-no (noticeOf ns takenNotice .elevator) takenAt (entry drawn takenNotice) 0 s)))
+      (same-or-not (noticeOf ns takenNotice .elevator) takenAt)
+
+  notice-drawn : 0 < entry (offers ns drawn takenAt) takenNotice → entry (offers ns drawn takenAt) takenNotice ≡ entry drawn takenNotice
+  notice-drawn h =
+      listed-at (length ns) (offer ns drawn takenAt) takenNotice 0 (notice-held h)
+      ∙ chosen-yes (noticeOf ns takenNotice .elevator) takenAt (entry drawn takenNotice) 0 (notice-at h)
 
   module _ (even : Even ns ps drawn) where
     -- while a pair has lots, so has a notice at its elevator
@@ -343,47 +383,34 @@ module _ (ss : List Section) (ns : List Notice) (ps : List Pair) (drawn : List �
     -- so where nothing is taken, nothing is left
     none-taken : taken ≡ 0 → Lined ns ps drawn []
     none-taken e =
-        let spent : pairOf ps takenPair .lots ≡ 0 =
-        ⊎-elim (λ (h : 0 < pairOf ps takenPair .lots). absurd (omega (arith, e, h, notice-offered h))) (λ (h : pairOf ps takenPair .lots ≤ 0). omega (arith, h)) (below-or-not 0 (pairOf ps takenPair .lots))
-        in
+        let pair = pairOf ps takenPair .lots in
+        let spent = ⊎-elim (λ (h : 0 < pair). absurd {A = pair ≤ 0} (omega (arith, e, h, notice-offered h))) (λ h. h) (below-or-not 0 pair) in
         let no-pair : (p : ℕ) → p < length ps → pairOf ps p .lots ≡ 0 = λ p h. omega (arith, pair-most p h, spent) in
-        lined-none ns ps drawn no-pair (λ k h.
+        let no-notice : (k : ℕ) → k < length ns → entry drawn k ≡ 0 =
+        λ k h.
         let at = noticeOf ns k .elevator in
-        omega (
-          arith,
-          sum-empty (length ns) (λ (j : ℕ). cond (eqb (noticeOf ns j .elevator) at) (entry drawn j) 0) (sym (even at) ∙ pairs-none (λ (q : Pair). eqb (q .elevator) at) ps no-pair) k h,
-          chosen-yes at at (entry drawn k) 0 refl,
-        ))
+        let nowhere = sum-empty (length ns) (offer ns drawn at) (sym (even at) ∙ pairs-none (λ (q : Pair). eqb (q .elevator) at) ps no-pair) k h in
+        omega (arith, nowhere, chosen-yes at at (entry drawn k) 0 refl)
+        in
+        lined-none ns ps drawn no-pair no-notice
 
     -- where something is taken, it is of a pair and of a notice at its elevator
     some-taken : length drawn ≡ length ns → ((k : ℕ) → k < length ns → noticeOf ns k .elevator < 32) → (taken ≡ 0 → ⊥) → Turn ns ps drawn takenPair takenNotice taken
     some-taken long elevators some =
-        let at = offers ns drawn takenAt in
-        let shown : ℕ → ℕ = λ (j : ℕ). cond (eqb (noticeOf ns j .elevator) takenAt) (entry drawn j) 0 in
-        let here : 0 < entry at takenNotice = omega (arith, some) in
-        let place : takenNotice < length ns =
-        ⊎-elim (λ (h : takenNotice < length ns). h) (λ (h : length ns ≤ takenNotice). absurd (omega (arith, here, listed-past (length ns) shown takenNotice 0 h))) (below-or-not takenNotice (length ns))
-        in
-        let read : entry at takenNotice ≡ shown takenNotice = listed-at (length ns) shown takenNotice 0 place in
-        let there : noticeOf ns takenNotice .elevator ≡ takenAt =
-        ⊎-elim (λ (h : noticeOf ns takenNotice .elevator ≡ takenAt). h)
-        (λ (h : noticeOf ns takenNotice .elevator ≡ takenAt → ⊥). absurd (omega (arith, here, read, chosen-no (noticeOf ns takenNotice .elevator) takenAt (entry drawn takenNotice) 0 h)))
-        (same-or-not (noticeOf ns takenNotice .elevator) takenAt)
-        in
-        let own : entry at takenNotice ≡ entry drawn takenNotice = read ∙ chosen-yes (noticeOf ns takenNotice .elevator) takenAt (entry drawn takenNotice) 0 there in
+        let pair = pairOf ps takenPair .lots in
+        let offered = entry (offers ns drawn takenAt) takenNotice in
+        let here : 0 < offered = omega (arith, some) in
         record {
           long = long;
           pair-place = pair-held (omega (arith, some));
-          notice-place = place;
-          elevator-place = elevators takenNotice place;
-          there = there;
+          notice-place = notice-held here;
+          elevator-place = elevators takenNotice (notice-held here);
+          there = notice-at here;
           even = even;
           above = omega (arith, some);
           of-pair = omega arith;
-          of-notice = omega (arith, own);
-          ends =
-              ⊎-elim (λ (h : pairOf ps takenPair .lots < entry at takenNotice). inl (omega (arith, h))) (λ (h : entry at takenNotice ≤ pairOf ps takenPair .lots). inr (omega (arith, h, own)))
-              (below-or-not (pairOf ps takenPair .lots) (entry at takenNotice));
+          of-notice = omega (arith, notice-drawn here);
+          ends = ⊎-elim (λ (h : pair < offered). inl (omega (arith, h))) (λ (h : offered ≤ pair). inr (omega (arith, h, notice-drawn here))) (below-or-not pair offered);
         }
 
     -- so a turn stops with nothing left, or has its line before the lines of what is left
@@ -398,7 +425,10 @@ module _ (ss : List Section) (ns : List Notice) (ps : List Pair) (drawn : List �
         let turn = some-taken long elevators (eqb-false taken 0 e) in
         line-more turn rest (next turn)
 
-pub lined : (ss : List Section) (ns : List Notice) (turns : ℕ) (ps : List Pair) (drawn : List ℕ) → length drawn ≡ length ns → ((k : ℕ) → k < length ns → noticeOf ns k .elevator < 32) → ((e : ℕ) → pairLots (λ (p : Pair). eqb (p .elevator) e) ps ≡ total (offers ns drawn e)) → livePairs ps + live (length ns) (entry drawn) ≤ turns → Lined ns ps drawn (stageTwo ss ns turns ps drawn)
+-- the lines of stage two, with turns enough for all pairs and notices that have lots
+pub lined : (ss : List Section) (ns : List Notice) (turns : ℕ) (ps : List Pair) (drawn : List ℕ) → length drawn ≡ length ns → ((k : ℕ) → k < length ns → noticeOf ns k .elevator < 32)
+    → ((e : ℕ) → pairLots (λ (p : Pair). eqb (p .elevator) e) ps ≡ total (offers ns drawn e)) → livePairs ps + live (length ns) (entry drawn) ≤ turns
+    → Lined ns ps drawn (stageTwo ss ns turns ps drawn)
 unfolding stageTwo
 lined ss ns zero ps drawn long elevators even enough =
     lined-none ns ps drawn
