@@ -1,17 +1,26 @@
 -- Stage two: the lines that a pass forms.
-use Prim.Native.Nat.{ℕ, _+_, _≤_, _<_}
-use mathlib.Core.Path.{_≡_}
-use mathlib.Core.Bool.{Bool, cond}
-use mathlib.Core.List.{List, map}
+use Prim.Native.Nat.{ℕ, zero, suc, _+_, _-_, _≤_, _<_, min}
+use native.Mathlib.Nat.{not-suc-le-zero, le-of-suc-le-suc}
+use native.Mathlib.Omega.{arith}
+use mathlib.Core.Path.{_≡_, refl, sym, ap, ap₂, _∙_}
+use mathlib.Core.Bool.{Bool, true, false, cond}
+use mathlib.Core.List.{List, [], _∷_, map}
+use mathlib.Core.Logic.{_⊎_, inl, inr, ⊎-elim}
 use lib.Dec.{eqb, ltb}
-use lib.ListN.{length}
-use Rattle.numbers.specs.Lists.{entry, listed}
-use Rattle.numbers.specs.Sums.{total, many}
-use Rattle.numbers.proofs.Ranges.{live}
+use lib.ListN.{length, getD, set, length-set, length-map, List·getD-map}
+use lib.Seq.{getD-set-same, getD-set-other}
+use borrow.Author.Tests.{lt-ltb, eqb-true, eqb-false}
+use Rattle.numbers.specs.Lists.{entry, listed, largest}
+use Rattle.numbers.specs.Sums.{gathered, total, many}
+use Rattle.numbers.proofs.Ranges.{live, listed-at, listed-past, listed-length, getD-past, chosen-yes, chosen-no, sum-same, sum-nothing, sum-changed, sum-part, sum-empty, total-entries}
+use Rattle.numbers.proofs.Orders.{largest-most}
+use Rattle.numbers.proofs.Sums.{naturals, total-read-set}
+use Rattle.numbers.proofs.Tests.{below-or-not, same-or-not}
 use Rattle.rules.specs.declared.book.Section.{Section}
 use Rattle.rules.specs.declared.book.Notice.{Notice}
 use Rattle.rules.specs.Book.{noticeOf}
-use Rattle.rules.specs.Expiry.Passes.{Pair, Line, pairOf, offers, stageTwo}
+use Rattle.rules.specs.Expiry.{lowerCode}
+use Rattle.rules.specs.Expiry.Passes.{Pair, Line, pairOf, offers, earlierPair, stageTwo}
 use Rattle.delivery.proofs.StageOne.{pairLots}
 
 -- the lots of the lines that pass a test
@@ -31,5 +40,404 @@ pub record Lined (ns : List Notice) (ps : List Pair) (drawn : List ℕ) (ls : Li
   pub by-notice : (test : ℕ → ℕ → Bool) → lineLots (λ (l : Line). test (l .seller) (l .elevator)) ls ≡ total (listed (length ns) (λ (k : ℕ). cond (test (noticeOf ns k .section) (noticeOf ns k .elevator)) (entry drawn k) 0))
   pub few : length ls + liveElevators ns drawn ≤ livePairs ps + live (length ns) (entry drawn)
 
-pub lined : (ss : List Section) (ns : List Notice) (turns : ℕ) (ps : List Pair) (drawn : List ℕ) → length drawn ≡ length ns → ((k : ℕ) → k < length ns → noticeOf ns k .elevator < 32) → ((e : ℕ) → pairLots (λ (p : Pair). eqb (p .elevator) e) ps ≡ total (offers ns drawn e)) → livePairs ps + live (length ns) (entry drawn) ≤ turns → Lined ns ps drawn (stageTwo ss ns turns ps drawn)
-lined ss ns turns ps drawn long elevators even enough = ?
+-- General laws of sums and of counts
+
+-- two readings that differ at one number only
+sum-apart : (n : ℕ) (f g : ℕ → ℕ) (j : ℕ) → j < n → ((i : ℕ) → i < n → (i ≡ j → ⊥) → f i ≡ g i) → total (listed n g) + f j ≡ total (listed n f) + g j
+sum-apart n f g j h same =
+    let there : j < length (listed n f) = omega (arith, h, listed-length n f) in
+    let changed = sum-changed _+_ 0 naturals (λ (i v : ℕ). v) (listed n f) 0 j (g j) n h (omega (arith, listed-length n f)) in
+    let at : (i : ℕ) → i < n → entry (set (listed n f) j (g j)) i ≡ g i =
+    λ i l.
+    ⊎-elim
+    (λ (e : i ≡ j). ap (entry (set (listed n f) j (g j))) e ∙ getD-set-same (listed n f) j (g j) 0 there ∙ ap g (sym e))
+    (λ (e : i ≡ j → ⊥). getD-set-other (listed n f) j i (g j) 0 e ∙ listed-at n f i 0 l ∙ same i l e)
+    (same-or-not i j)
+    in
+    let new = sum-same _+_ 0 naturals n (entry (set (listed n f) j (g j))) g at in
+    let old = sum-same _+_ 0 naturals n (entry (listed n f)) f (λ i l. listed-at n f i 0 l) in
+    omega (arith, changed, new, old, listed-at n f j 0 h)
+
+-- what is read of one entry is at most the sum; where nothing is read of any, the sum is 0
+module _ {A : Type 0} (f : A → ℕ) (d : A) where
+  total-part : (xs : List A) (i : ℕ) → i < length xs → f (getD xs i d) ≤ total (map f xs)
+  unfolding gathered
+  total-part [] i h = absurd (not-suc-le-zero h)
+  total-part (x ∷ xs) zero h = omega arith
+  total-part (x ∷ xs) (suc i) h = omega (arith, total-part xs i (le-of-suc-le-suc h))
+
+  total-nothing : (xs : List A) → ((i : ℕ) → i < length xs → f (getD xs i d) ≡ 0) → total (map f xs) ≡ 0
+  unfolding gathered
+  total-nothing [] e = refl
+  total-nothing (x ∷ xs) e = omega (arith, e 0 (omega arith), total-nothing xs (λ i h. e (suc i) (omega (arith, h))))
+
+-- how one number counts among those above 0
+abbrev alive : ℕ → ℕ
+alive v = cond (ltb 0 v) 1 0
+
+alive-yes : (v : ℕ) → 0 < v → alive v ≡ 1
+alive-yes v h = ap (λ (t : Bool). cond t 1 0) (lt-ltb 0 v h)
+
+alive-no : (v : ℕ) → v ≡ 0 → alive v ≡ 0
+alive-no v e = ap alive e
+
+alive-most : (v : ℕ) → alive v ≤ 1
+alive-most v = ⊎-elim (λ h. omega (arith, alive-yes v h)) (λ h. omega (arith, alive-no v (omega (arith, h)))) (below-or-not 0 v)
+
+alive-more : (v w : ℕ) → v ≤ w → alive v ≤ alive w
+alive-more v w le =
+    ⊎-elim (λ h. omega (arith, alive-yes v h, alive-yes w (omega (arith, h, le)))) (λ h. omega (arith, alive-no v (omega (arith, h)))) (below-or-not 0 v)
+
+alive-none : (v : ℕ) → alive v ≡ 0 → v ≡ 0
+alive-none v e = ⊎-elim (λ h. absurd (omega (arith, alive-yes v h, e))) (λ h. omega (arith, h)) (below-or-not 0 v)
+
+live-sum : (n : ℕ) (f : ℕ → ℕ) → live n f ≡ total (listed n (λ (i : ℕ). alive (f i)))
+unfolding many
+live-sum n f = refl
+
+-- where nothing counts, each is 0
+live-empty : (n : ℕ) (f : ℕ → ℕ) → live n f ≡ 0 → (i : ℕ) → i < n → f i ≡ 0
+live-empty n f e i h = alive-none (f i) (sum-empty n (λ (j : ℕ). alive (f j)) (sym (live-sum n f) ∙ e) i h)
+
+live-nothing : (n : ℕ) (f : ℕ → ℕ) → ((i : ℕ) → i < n → f i ≡ 0) → live n f ≡ 0
+live-nothing n f e = live-sum n f ∙ sum-nothing _+_ 0 naturals n (λ (i : ℕ). alive (f i)) (λ i h. alive-no (f i) (e i h))
+
+-- where one of the numbers changes
+live-apart : (n : ℕ) (f g : ℕ → ℕ) (j : ℕ) → j < n → ((i : ℕ) → i < n → (i ≡ j → ⊥) → f i ≡ g i) → live n g + alive (f j) ≡ live n f + alive (g j)
+live-apart n f g j h same =
+    omega (arith, live-sum n f, live-sum n g, sum-apart n (λ (i : ℕ). alive (f i)) (λ (i : ℕ). alive (g i)) j h (λ i l e. ap alive (same i l e)))
+
+live-set : {A : Type 0} (read : A → ℕ) (xs : List A) (d : A) (j : ℕ) (y : A) (n : ℕ) → n ≡ length xs → j < n
+    → live n (λ (i : ℕ). read (getD (set xs j y) i d)) + alive (read (getD xs j d)) ≡ live n (λ (i : ℕ). read (getD xs i d)) + alive (read y)
+live-set {A = A} read xs d j y n long h =
+    live-apart n (λ (i : ℕ). read (getD xs i d)) (λ (i : ℕ). read (getD (set xs j y) i d)) j h (λ i l e. ap read (sym (getD-set-other xs j i y d e)))
+    ∙ ap (λ (x : A). live n (λ (i : ℕ). read (getD xs i d)) + alive (read x)) (getD-set-same xs j y d (omega (arith, long, h)))
+
+-- one part of what is read under a test is taken off
+split-off : (t : Bool) (all part : ℕ) → part ≤ all → cond t part 0 + cond t (all - part) 0 ≡ cond t all 0
+split-off true all part h = omega (arith, h)
+split-off false all part h = omega arith
+
+-- One turn
+
+abbrev noPair : Pair
+noPair = record { buyer = 0; elevator = 0; lots = 0 }
+
+-- what is left of a pair, of the pairs and of what is drawn when an amount is taken off a pair and off a notice
+abbrev pairLess : Pair → ℕ → Pair
+pairLess q amount = record { buyer = q .buyer; elevator = q .elevator; lots = q .lots - amount }
+
+abbrev pairsLeft : List Pair → ℕ → ℕ → List Pair
+pairsLeft ps p amount = set ps p (pairLess (pairOf ps p) amount)
+
+abbrev drawnLeft : List ℕ → ℕ → ℕ → List ℕ
+drawnLeft drawn k amount = set drawn k (entry drawn k - amount)
+
+-- the lots of the pairs whose buyer and elevator pass a test, and what is drawn of the notices whose number does
+abbrev lotsBy : (ℕ → ℕ → Bool) → List Pair → ℕ
+lotsBy test = pairLots (λ (q : Pair). test (q .buyer) (q .elevator))
+
+abbrev drawnBy : List Notice → (ℕ → Bool) → List ℕ → ℕ
+drawnBy ns test drawn = total (listed (length ns) (λ (j : ℕ). cond (test j) (entry drawn j) 0))
+
+-- what is drawn of a notice at an elevator
+abbrev offer : List Notice → List ℕ → ℕ → ℕ → ℕ
+offer ns drawn e j = cond (eqb (noticeOf ns j .elevator) e) (entry drawn j) 0
+
+-- the pairs' lots at each elevator are what is drawn there
+abbrev Even : List Notice → List Pair → List ℕ → Type 0
+Even ns ps drawn = (e : ℕ) → pairLots (λ (q : Pair). eqb (q .elevator) e) ps ≡ total (offers ns drawn e)
+
+-- a pair and a notice at its elevator, and the smaller of what they have
+record Turn (ns : List Notice) (ps : List Pair) (drawn : List ℕ) (p k amount : ℕ) : Type 0 where
+  long : length drawn ≡ length ns
+  pair-place : p < length ps
+  notice-place : k < length ns
+  elevator-place : noticeOf ns k .elevator < 32
+  there : noticeOf ns k .elevator ≡ pairOf ps p .elevator
+  even : Even ns ps drawn
+  above : 0 < amount
+  of-pair : amount ≤ pairOf ps p .lots
+  of-notice : amount ≤ entry drawn k
+  ends : (amount ≡ pairOf ps p .lots) ⊎ (amount ≡ entry drawn k)
+
+module _ {ns : List Notice} {ps : List Pair} {drawn : List ℕ} {p k amount : ℕ} (turn : Turn ns ps drawn p k amount) where
+  -- the amount is taken off the pairs' lots and off the notices'
+  pairs-fall : (test : ℕ → ℕ → Bool) → cond (test (pairOf ps p .buyer) (pairOf ps p .elevator)) amount 0 + lotsBy test (pairsLeft ps p amount) ≡ lotsBy test ps
+  pairs-fall test =
+      let f : Pair → ℕ = λ (q : Pair). cond (test (q .buyer) (q .elevator)) (q .lots) 0 in
+      omega (
+        arith,
+        total-read-set _+_ 0 naturals f ps p (pairLess (pairOf ps p) amount) noPair (turn .pair-place),
+        split-off (test (pairOf ps p .buyer) (pairOf ps p .elevator)) (pairOf ps p .lots) amount (turn .of-pair),
+      )
+
+  drawn-falls : (test : ℕ → Bool) → cond (test k) amount 0 + drawnBy ns test (drawnLeft drawn k amount) ≡ drawnBy ns test drawn
+  drawn-falls test =
+      omega (
+        arith,
+        sum-changed _+_ 0 naturals (λ (j v : ℕ). cond (test j) v 0) drawn 0 k (entry drawn k - amount) (length ns) (turn .notice-place) (omega (arith, turn .long)),
+        split-off (test k) (entry drawn k) amount (turn .of-notice),
+      )
+
+  even-left : Even ns (pairsLeft ps p amount) (drawnLeft drawn k amount)
+  even-left e =
+      omega (
+        arith,
+        turn .even e,
+        pairs-fall (λ (b f : ℕ). eqb f e),
+        drawn-falls (λ (j : ℕ). eqb (noticeOf ns j .elevator) e),
+        ap (λ (f : ℕ). cond (eqb f e) amount 0) (turn .there),
+      )
+
+  long-left : length (drawnLeft drawn k amount) ≡ length ns
+  long-left = length-set drawn k (entry drawn k - amount) ∙ turn .long
+
+  -- what is left at the elevator of the pair and the notice: no less than what is left of the one, or of the other
+  left-there : ℕ
+  left-there = total (offers ns (drawnLeft drawn k amount) (pairOf ps p .elevator))
+
+  pair-there : pairOf ps p .lots - amount ≤ left-there
+  unfolding left-there
+  pair-there =
+      let e = pairOf ps p .elevator in
+      let new = pairLess (pairOf ps p) amount in
+      let f : Pair → ℕ = λ (q : Pair). cond (eqb (q .elevator) e) (q .lots) 0 in
+      omega (
+        arith,
+        total-part f noPair (pairsLeft ps p amount) p (omega (arith, turn .pair-place, length-set ps p new)),
+        ap f (getD-set-same ps p new noPair (turn .pair-place)),
+        chosen-yes e e (pairOf ps p .lots - amount) 0 refl,
+        even-left e,
+      )
+
+  notice-there : entry drawn k - amount ≤ left-there
+  unfolding left-there
+  notice-there =
+      let e = pairOf ps p .elevator in
+      omega (
+        arith,
+        sum-part (length ns) (offer ns (drawnLeft drawn k amount) e) k (turn .notice-place),
+        chosen-yes (noticeOf ns k .elevator) e (entry (drawnLeft drawn k amount) k) 0 (turn .there),
+        getD-set-same drawn k (entry drawn k - amount) 0 (omega (arith, turn .long, turn .notice-place)),
+      )
+
+  -- the pair ends or the notice does, and where the other goes on, so does their elevator
+  one-ends : alive (pairOf ps p .lots - amount) + alive (entry drawn k - amount) ≤ alive left-there
+  one-ends =
+      let pair = alive-more (pairOf ps p .lots - amount) left-there pair-there in
+      let notice = alive-more (entry drawn k - amount) left-there notice-there in
+      ⊎-elim
+      (λ (h : amount ≡ pairOf ps p .lots). omega (arith, notice, alive-no (pairOf ps p .lots - amount) (omega (arith, h))))
+      (λ (h : amount ≡ entry drawn k). omega (arith, pair, alive-no (entry drawn k - amount) (omega (arith, h))))
+      (turn .ends)
+
+  -- how many pairs, notices and elevators go on
+  pairs-live : livePairs (pairsLeft ps p amount) + 1 ≡ livePairs ps + alive (pairOf ps p .lots - amount)
+  pairs-live =
+      let new = pairLess (pairOf ps p) amount in
+      omega (
+        arith,
+        ap (λ (n : ℕ). live n (λ (i : ℕ). pairOf (pairsLeft ps p amount) i .lots)) (length-set ps p new),
+        live-set (λ (q : Pair). q .lots) ps noPair p new (length ps) refl (turn .pair-place),
+        alive-yes (pairOf ps p .lots) (omega (arith, turn .above, turn .of-pair)),
+      )
+
+  drawn-live : live (length ns) (entry (drawnLeft drawn k amount)) + 1 ≡ live (length ns) (entry drawn) + alive (entry drawn k - amount)
+  drawn-live =
+      omega (
+        arith,
+        live-set (λ (v : ℕ). v) drawn 0 k (entry drawn k - amount) (length ns) (sym (turn .long)) (turn .notice-place),
+        alive-yes (entry drawn k) (omega (arith, turn .above, turn .of-notice)),
+      )
+
+  elevators-live : liveElevators ns (drawnLeft drawn k amount) + 1 ≡ liveElevators ns drawn + alive left-there
+  unfolding left-there
+  elevators-live =
+      let e = pairOf ps p .elevator in
+      let left = drawnLeft drawn k amount in
+      let falls : (f : ℕ) → cond (eqb (noticeOf ns k .elevator) f) amount 0 + total (offers ns left f) ≡ total (offers ns drawn f) = λ f. drawn-falls (λ (j : ℕ). eqb (noticeOf ns j .elevator) f) in
+      omega (
+        arith,
+        live-apart 32 (λ (f : ℕ). total (offers ns drawn f)) (λ (f : ℕ). total (offers ns left f)) e (omega (arith, turn .elevator-place, turn .there))
+            (λ f l other. omega (arith, falls f, chosen-no (noticeOf ns k .elevator) f amount 0 (λ s. other (sym s ∙ turn .there)))),
+        alive-yes (total (offers ns drawn e)) (omega (arith, turn .above, falls e, chosen-yes (noticeOf ns k .elevator) e amount 0 (turn .there))),
+      )
+
+  -- so the turns that are left are enough
+  enough-left : (turns : ℕ) → livePairs ps + live (length ns) (entry drawn) ≤ suc turns → livePairs (pairsLeft ps p amount) + live (length ns) (entry (drawnLeft drawn k amount)) ≤ turns
+  enough-left turns enough = omega (arith, enough, one-ends, alive-most left-there, pairs-live, drawn-live)
+
+  -- the turn's line, before the lines of what is left
+  line-more : (ls : List Line) → Lined ns (pairsLeft ps p amount) (drawnLeft drawn k amount) ls
+      → Lined ns ps drawn (record { buyer = pairOf ps p .buyer; elevator = pairOf ps p .elevator; seller = noticeOf ns k .section; lots = amount } ∷ ls)
+  unfolding gathered
+  line-more ls rest =
+      record {
+        by-buyer = λ b. ap (λ (n : ℕ). cond (eqb (pairOf ps p .buyer) b) amount 0 + n) (rest .by-buyer b) ∙ pairs-fall (λ (c e : ℕ). eqb c b);
+        by-notice = λ test.
+            ap₂ (λ (e n : ℕ). cond (test (noticeOf ns k .section) e) amount 0 + n) (sym (turn .there)) (rest .by-notice test)
+            ∙ drawn-falls (λ (j : ℕ). test (noticeOf ns j .section) (noticeOf ns j .elevator));
+        few = omega (arith, rest .few, one-ends, pairs-live, drawn-live, elevators-live);
+      }
+
+-- where nothing is left nothing is read, and there is no line
+nothing-read : (t : Bool) (v : ℕ) → v ≡ 0 → cond t v 0 ≡ 0
+nothing-read true v e = e
+nothing-read false v e = refl
+
+pairs-none : (test : Pair → Bool) (ps : List Pair) → ((p : ℕ) → p < length ps → pairOf ps p .lots ≡ 0) → pairLots test ps ≡ 0
+pairs-none test ps none = total-nothing (λ (q : Pair). cond (test q) (q .lots) 0) noPair ps (λ p h. nothing-read (test (pairOf ps p)) (pairOf ps p .lots) (none p h))
+
+lined-none : (ns : List Notice) (ps : List Pair) (drawn : List ℕ)
+    → ((p : ℕ) → p < length ps → pairOf ps p .lots ≡ 0) → ((k : ℕ) → k < length ns → entry drawn k ≡ 0) → Lined ns ps drawn []
+unfolding gathered
+lined-none ns ps drawn no-pair no-notice =
+    record {
+      by-buyer = λ b. sym (pairs-none (λ (q : Pair). eqb (q .buyer) b) ps no-pair);
+      by-notice = λ test. sym (nothing (λ (k : ℕ). test (noticeOf ns k .section) (noticeOf ns k .elevator)));
+      few = omega (arith, live-nothing 32 (λ (e : ℕ). total (offers ns drawn e)) (λ e h. nothing (λ (k : ℕ). eqb (noticeOf ns k .elevator) e)));
+    }
+  where
+    nothing : (test : ℕ → Bool) → drawnBy ns test drawn ≡ 0
+    nothing test = sum-nothing _+_ 0 naturals (length ns) (λ (k : ℕ). cond (test k) (entry drawn k) 0) (λ k h. nothing-read (test k) (entry drawn k) (no-notice k h))
+
+-- The pair and the notice that a turn takes
+module _ (ss : List Section) (ns : List Notice) (ps : List Pair) (drawn : List ℕ) where
+  abbrev takenPair : ℕ
+  takenPair = largest (λ (i j : ℕ). earlierPair ss (pairOf ps i) (pairOf ps j)) (map (λ (q : Pair). q .lots) ps)
+
+  abbrev takenAt : ℕ
+  takenAt = pairOf ps takenPair .elevator
+
+  abbrev takenNotice : ℕ
+  takenNotice = largest (λ (i j : ℕ). lowerCode ss (noticeOf ns i .section) (noticeOf ns j .section)) (offers ns drawn takenAt)
+
+  abbrev taken : ℕ
+  taken = min (pairOf ps takenPair .lots) (entry (offers ns drawn takenAt) takenNotice)
+
+  abbrev leftPairs : List Pair
+  leftPairs = pairsLeft ps takenPair taken
+
+  abbrev leftDrawn : List ℕ
+  leftDrawn = drawnLeft drawn takenNotice taken
+
+  -- the pair has most lots
+  pair-most : (p : ℕ) → p < length ps → pairOf ps p .lots ≤ pairOf ps takenPair .lots
+  pair-most p h =
+      let lots : Pair → ℕ = λ (q : Pair). q .lots in
+      omega (
+        arith,
+        largest-most (λ (i j : ℕ). earlierPair ss (pairOf ps i) (pairOf ps j)) (map lots ps) p (omega (arith, h, length-map ps lots)),
+        List·getD-map lots ps p noPair,
+        List·getD-map lots ps takenPair noPair,
+      )
+
+  -- a pair with lots has a place
+  pair-held : 0 < pairOf ps takenPair .lots → takenPair < length ps
+  pair-held h =
+      ⊎-elim (λ (l : takenPair < length ps). l)
+      (λ (l : length ps ≤ takenPair). absurd (omega (arith, h, ap (λ (q : Pair). q .lots) (getD-past ps takenPair noPair l))))
+      (below-or-not takenPair (length ps))
+
+  -- a notice with lots to offer has a place and stands at the pair's elevator, and offers all that is drawn of it
+  notice-held : 0 < entry (offers ns drawn takenAt) takenNotice → takenNotice < length ns
+  notice-held h =
+      ⊎-elim (λ (l : takenNotice < length ns). l)
+      (λ (l : length ns ≤ takenNotice). absurd (omega (arith, h, listed-past (length ns) (offer ns drawn takenAt) takenNotice 0 l)))
+      (below-or-not takenNotice (length ns))
+
+  notice-at : 0 < entry (offers ns drawn takenAt) takenNotice → noticeOf ns takenNotice .elevator ≡ takenAt
+  notice-at h =
+      let read = listed-at (length ns) (offer ns drawn takenAt) takenNotice 0 (notice-held h) in
+      ⊎-elim (λ (s : noticeOf ns takenNotice .elevator ≡ takenAt). s)
+      (λ (s : noticeOf ns takenNotice .elevator ≡ takenAt → ⊥). absurd (omega (arith, h, read, chosen-no (noticeOf ns takenNotice .elevator) takenAt (entry drawn takenNotice) 0 s)))
+      (same-or-not (noticeOf ns takenNotice .elevator) takenAt)
+
+  notice-drawn : 0 < entry (offers ns drawn takenAt) takenNotice → entry (offers ns drawn takenAt) takenNotice ≡ entry drawn takenNotice
+  notice-drawn h =
+      listed-at (length ns) (offer ns drawn takenAt) takenNotice 0 (notice-held h)
+      ∙ chosen-yes (noticeOf ns takenNotice .elevator) takenAt (entry drawn takenNotice) 0 (notice-at h)
+
+  module _ (even : Even ns ps drawn) where
+    -- while a pair has lots, so has a notice at its elevator
+    notice-offered : 0 < pairOf ps takenPair .lots → 0 < entry (offers ns drawn takenAt) takenNotice
+    notice-offered h =
+        let at = offers ns drawn takenAt in
+        let f : Pair → ℕ = λ (q : Pair). cond (eqb (q .elevator) takenAt) (q .lots) 0 in
+        let most = largest-most (λ (i j : ℕ). lowerCode ss (noticeOf ns i .section) (noticeOf ns j .section)) at in
+        ⊎-elim (λ (l : 0 < entry at takenNotice). l)
+        (λ (l : entry at takenNotice ≤ 0).
+        absurd
+        (omega (
+          arith,
+          h,
+          total-part f noPair ps takenPair (pair-held h),
+          chosen-yes takenAt takenAt (pairOf ps takenPair .lots) 0 refl,
+          even takenAt,
+          total-entries at,
+          sum-nothing _+_ 0 naturals (length at) (entry at) (λ i b. omega (arith, most i b, l)),
+        )))
+        (below-or-not 0 (entry at takenNotice))
+
+    -- so where nothing is taken, nothing is left
+    none-taken : taken ≡ 0 → Lined ns ps drawn []
+    none-taken e =
+        let pair = pairOf ps takenPair .lots in
+        let spent = ⊎-elim (λ (h : 0 < pair). absurd {A = pair ≤ 0} (omega (arith, e, h, notice-offered h))) (λ h. h) (below-or-not 0 pair) in
+        let no-pair : (p : ℕ) → p < length ps → pairOf ps p .lots ≡ 0 = λ p h. omega (arith, pair-most p h, spent) in
+        let no-notice : (k : ℕ) → k < length ns → entry drawn k ≡ 0 =
+        λ k h.
+        let at = noticeOf ns k .elevator in
+        let nowhere = sum-empty (length ns) (offer ns drawn at) (sym (even at) ∙ pairs-none (λ (q : Pair). eqb (q .elevator) at) ps no-pair) k h in
+        omega (arith, nowhere, chosen-yes at at (entry drawn k) 0 refl)
+        in
+        lined-none ns ps drawn no-pair no-notice
+
+    -- where something is taken, it is of a pair and of a notice at its elevator
+    some-taken : length drawn ≡ length ns → ((k : ℕ) → k < length ns → noticeOf ns k .elevator < 32) → (taken ≡ 0 → ⊥) → Turn ns ps drawn takenPair takenNotice taken
+    some-taken long elevators some =
+        let pair = pairOf ps takenPair .lots in
+        let offered = entry (offers ns drawn takenAt) takenNotice in
+        let here : 0 < offered = omega (arith, some) in
+        record {
+          long = long;
+          pair-place = pair-held (omega (arith, some));
+          notice-place = notice-held here;
+          elevator-place = elevators takenNotice (notice-held here);
+          there = notice-at here;
+          even = even;
+          above = omega (arith, some);
+          of-pair = omega arith;
+          of-notice = omega (arith, notice-drawn here);
+          ends = ⊎-elim (λ (h : pair < offered). inl (omega (arith, h))) (λ (h : offered ≤ pair). inr (omega (arith, h, notice-drawn here))) (below-or-not pair offered);
+        }
+
+    -- so a turn stops with nothing left, or has its line before the lines of what is left
+    one-turn : length drawn ≡ length ns → ((k : ℕ) → k < length ns → noticeOf ns k .elevator < 32) → (rest : List Line)
+        → (Turn ns ps drawn takenPair takenNotice taken → Lined ns leftPairs leftDrawn rest) → (t : Bool) → eqb taken 0 ≡ t
+        → Lined ns ps drawn (elim t [
+          | true ↦ []
+          | false ↦ record { buyer = pairOf ps takenPair .buyer; elevator = takenAt; seller = noticeOf ns takenNotice .section; lots = taken } ∷ rest
+        ])
+    one-turn long elevators rest next true e = none-taken (eqb-true taken 0 e)
+    one-turn long elevators rest next false e =
+        let turn = some-taken long elevators (eqb-false taken 0 e) in
+        line-more turn rest (next turn)
+
+-- the lines of stage two, with turns enough for all pairs and notices that have lots
+pub lined : (ss : List Section) (ns : List Notice) (turns : ℕ) (ps : List Pair) (drawn : List ℕ) → length drawn ≡ length ns → ((k : ℕ) → k < length ns → noticeOf ns k .elevator < 32)
+    → ((e : ℕ) → pairLots (λ (p : Pair). eqb (p .elevator) e) ps ≡ total (offers ns drawn e)) → livePairs ps + live (length ns) (entry drawn) ≤ turns
+    → Lined ns ps drawn (stageTwo ss ns turns ps drawn)
+unfolding stageTwo
+lined ss ns zero ps drawn long elevators even enough =
+    lined-none ns ps drawn
+    (live-empty (length ps) (λ (p : ℕ). pairOf ps p .lots) (omega (arith, enough)))
+    (live-empty (length ns) (entry drawn) (omega (arith, enough)))
+lined ss ns (suc turns) ps drawn long elevators even enough =
+    let ps′ = leftPairs ss ns ps drawn in
+    let drawn′ = leftDrawn ss ns ps drawn in
+    one-turn ss ns ps drawn even long elevators (stageTwo ss ns turns ps′ drawn′)
+    (λ turn. lined ss ns turns ps′ drawn′ (long-left turn) elevators (even-left turn) (enough-left turn turns enough))
+    (eqb (taken ss ns ps drawn) 0)
+    refl
