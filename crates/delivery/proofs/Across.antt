@@ -29,8 +29,50 @@ chosen-of-code ss test side xs c same = sum-same _+_ 0 naturals (length ss) _ _ 
 
 -- lots of one side only are all on it, and none on another
 module _ (ss : List Section) (test : Section → Bool) (side : ℤ → Bool) (xs ys : List ℕ) (long : length ys ≡ length ss) (each : (i : ℕ) → entry ys i ≤ entry (chosen ss test xs) i) where
-  pub side-all : ((i : ℕ) → i < length ss → test (sectionOf ss i) ≡ side (positionOf (sectionOf ss i))) → allOf ss side ys ≡ total ys
-  side-all same = ?
+  -- a section that the test leaves out has none
+  left-out : (i : ℕ) → i < length ss → test (sectionOf ss i) ≡ false → entry ys i ≡ 0
+  left-out i h e = omega (arith, each i, listed-at (length ss) (λ (j : ℕ). cond (test (sectionOf ss j)) (entry xs j) 0) i 0 h ∙ ap (λ (t : Bool). cond t (entry xs i) 0) e)
+
+  pub side-all : ((i : ℕ) → i < length ss → side (positionOf (sectionOf ss i)) ≡ false → test (sectionOf ss i) ≡ false) → allOf ss side ys ≡ total ys
+  side-all same =
+      sum-same _+_ 0 naturals (length ss) _ _ (λ i h. go i h (side (positionOf (sectionOf ss i))) refl)
+      ∙ ap (λ (n : ℕ). total (listed n (entry ys))) (sym long)
+      ∙ total-entries ys
+    where
+      go : (i : ℕ) → i < length ss → (t : Bool) → side (positionOf (sectionOf ss i)) ≡ t → cond (side (positionOf (sectionOf ss i))) (entry ys i) 0 ≡ entry ys i
+      go i h true e = ap (λ (t : Bool). cond t (entry ys i) 0) e
+      go i h false e = ap (λ (t : Bool). cond t (entry ys i) 0) e ∙ sym (left-out i h (same i h e))
 
   pub side-none : ((i : ℕ) → i < length ss → side (positionOf (sectionOf ss i)) ≡ true → test (sectionOf ss i) ≡ false) → allOf ss side ys ≡ 0
-  side-none apart = ?
+  side-none apart = sum-nothing _+_ 0 naturals (length ss) _ (λ i h. go i h (side (positionOf (sectionOf ss i))) refl)
+    where
+      go : (i : ℕ) → i < length ss → (t : Bool) → side (positionOf (sectionOf ss i)) ≡ t → cond (side (positionOf (sectionOf ss i))) (entry ys i) 0 ≡ 0
+      go i h true e = ap (λ (t : Bool). cond t (entry ys i) 0) e ∙ left-out i h (apart i h e)
+      go i h false e = ap (λ (t : Bool). cond t (entry ys i) 0) e
+
+-- `mine` is the side that gives, `other` the side of what is open
+module _ (ss : List Section) (codes : (i : ℕ) → i < length ss → sectionOf ss i .settlement < 64) (left : List ℕ) (d : ℤ) (mine other : ℤ → Bool) (faced : (p : ℤ) → opposed p d ≡ mine p) (apart : (p : ℤ) → other p ≡ true → mine p ≡ false) (net-cap : (c : ℕ) → c < 64 → entry (codeCaps ss d left) c ≡ sideOf ss mine c left - sideOf ss other c left) (more : natAbs d + allOf ss other left ≡ allOf ss mine left) where
+  abbrev facing : Section → Bool
+  facing s = opposed (positionOf s) d
+
+  giving : Given ss (chosen ss facing left) (codeCaps ss d left) (natAbs d) (givenAcross ss d left)
+  unfolding givenAcross
+  giving = given ss (chosen ss facing left) ltb (codeCaps ss d left) (natAbs d)
+
+  -- code by code, all that a code has over what it has on the other side
+  at-least : ((c : ℕ) → ofCode ss c (givenAcross ss d left) ≡ min (entry (codeCaps ss d left) c) (ofCode ss c (chosen ss facing left))) → allOf ss mine left ≤ total (givenAcross ss d left) + allOf ss other left
+  at-least each =
+      let a = givenAcross ss d left in
+      let by-code : total (listed 64 (λ (c : ℕ). ofCode ss c a)) ≡ total a =
+              sum-classes _+_ 0 naturals (length ss) 64 (λ (i : ℕ). sectionOf ss i .settlement) (entry a) codes ∙ ap (λ (n : ℕ). total (listed n (entry a))) (sym (giving .long)) ∙ total-entries a in
+      omega (arith, sum-within 64 (λ (c : ℕ). sideOf ss mine c left) (λ (c : ℕ). ofCode ss c a + sideOf ss other c left) (λ c h. omega (arith, each c, net-cap c h, chosen-of-code ss facing mine left c (λ i k e. faced (positionOf (sectionOf ss i))))), sum-both _+_ 0 naturals 64 (λ (c : ℕ). ofCode ss c a) (λ (c : ℕ). sideOf ss other c left), by-code, side-classes ss mine left codes, side-classes ss other left codes)
+
+  pub closed : total (givenAcross ss d left) ≡ natAbs d
+  closed = ⊎-elim (λ e. e) (λ each. omega (arith, at-least each, more, giving .needed)) (giving .filled)
+
+  -- so both sides have the same after it
+  pub closed-even : allOf ss mine (less left (givenAcross ss d left)) ≡ allOf ss other (less left (givenAcross ss d left))
+  closed-even =
+      let a = givenAcross ss d left in
+      let within : (i : ℕ) → entry a i ≤ entry left i = λ i. omega (arith, giving .each i, chosen-within ss facing left i) in
+      omega (arith, closed, more, lots-less ss (λ (s : Section). mine (positionOf s)) left a within, lots-less ss (λ (s : Section). other (positionOf s)) left a within, side-all ss facing mine left a (giving .long) (giving .each) (λ i h e. faced (positionOf (sectionOf ss i)) ∙ e), side-none ss facing other left a (giving .long) (giving .each) (λ i h e. faced (positionOf (sectionOf ss i)) ∙ apart (positionOf (sectionOf ss i)) e))
