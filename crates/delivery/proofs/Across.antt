@@ -17,7 +17,7 @@ use Rattle.rules.specs.Book.{positionOf, sectionOf}
 use Rattle.rules.specs.Expiry.{opposed, chosen}
 use Rattle.rules.specs.Expiry.Across.{codeCaps, givenAcross}
 use Rattle.delivery.proofs.Greedy.{ofCode, Given, given}
-use Rattle.delivery.proofs.Sides.{sideOf, allOf, both-tests, chosen-within, lots-less, side-classes}
+use Rattle.delivery.proofs.Sides.{lotsOf, sideOf, allOf, both-tests, chosen-within, lots-less, side-classes}
 
 -- what a code's sections on one side have
 pub chosen-of-code : (ss : List Section) (test : Section → Bool) (side : ℤ → Bool) (xs : List ℕ) (c : ℕ) → ((i : ℕ) → i < length ss → eqb (sectionOf ss i .settlement) c ≡ true → test (sectionOf ss i) ≡ side (positionOf (sectionOf ss i))) → ofCode ss c (chosen ss test xs) ≡ sideOf ss side c xs
@@ -28,13 +28,13 @@ chosen-of-code ss test side xs c same = sum-same _+_ 0 naturals (length ss) _ _ 
     go i h false e = rw e (sym (both-tests (side (positionOf (sectionOf ss i))) false (entry xs i)))
 
 -- lots of one side only are all on it, and none on another
-module _ (ss : List Section) (test : Section → Bool) (side : ℤ → Bool) (xs ys : List ℕ) (long : length ys ≡ length ss) (each : (i : ℕ) → entry ys i ≤ entry (chosen ss test xs) i) where
+module _ (ss : List Section) (test : Section → Bool) (xs ys : List ℕ) (long : length ys ≡ length ss) (each : (i : ℕ) → entry ys i ≤ entry (chosen ss test xs) i) where
   -- a section that the test leaves out has none
-  left-out : (i : ℕ) → i < length ss → test (sectionOf ss i) ≡ false → entry ys i ≡ 0
+  pub left-out : (i : ℕ) → i < length ss → test (sectionOf ss i) ≡ false → entry ys i ≡ 0
   left-out i h e = omega (arith, each i, listed-at (length ss) (λ (j : ℕ). cond (test (sectionOf ss j)) (entry xs j) 0) i 0 h ∙ ap (λ (t : Bool). cond t (entry xs i) 0) e)
 
-  pub side-all : ((i : ℕ) → i < length ss → side (positionOf (sectionOf ss i)) ≡ false → test (sectionOf ss i) ≡ false) → allOf ss side ys ≡ total ys
-  side-all same =
+  pub side-all : (side : ℤ → Bool) → ((i : ℕ) → i < length ss → side (positionOf (sectionOf ss i)) ≡ false → test (sectionOf ss i) ≡ false) → allOf ss side ys ≡ total ys
+  side-all side same =
       sum-same _+_ 0 naturals (length ss) _ _ (λ i h. go i h (side (positionOf (sectionOf ss i))) refl)
       ∙ ap (λ (n : ℕ). total (listed n (entry ys))) (sym long)
       ∙ total-entries ys
@@ -43,10 +43,10 @@ module _ (ss : List Section) (test : Section → Bool) (side : ℤ → Bool) (xs
       go i h true e = ap (λ (t : Bool). cond t (entry ys i) 0) e
       go i h false e = ap (λ (t : Bool). cond t (entry ys i) 0) e ∙ sym (left-out i h (same i h e))
 
-  pub side-none : ((i : ℕ) → i < length ss → side (positionOf (sectionOf ss i)) ≡ true → test (sectionOf ss i) ≡ false) → allOf ss side ys ≡ 0
-  side-none apart = sum-nothing _+_ 0 naturals (length ss) _ (λ i h. go i h (side (positionOf (sectionOf ss i))) refl)
+  pub lots-none : (pick : Section → Bool) → ((i : ℕ) → i < length ss → pick (sectionOf ss i) ≡ true → test (sectionOf ss i) ≡ false) → lotsOf ss pick ys ≡ 0
+  lots-none pick apart = sum-nothing _+_ 0 naturals (length ss) _ (λ i h. go i h (pick (sectionOf ss i)) refl)
     where
-      go : (i : ℕ) → i < length ss → (t : Bool) → side (positionOf (sectionOf ss i)) ≡ t → cond (side (positionOf (sectionOf ss i))) (entry ys i) 0 ≡ 0
+      go : (i : ℕ) → i < length ss → (t : Bool) → pick (sectionOf ss i) ≡ t → cond (pick (sectionOf ss i)) (entry ys i) 0 ≡ 0
       go i h true e = ap (λ (t : Bool). cond t (entry ys i) 0) e ∙ left-out i h (apart i h e)
       go i h false e = ap (λ (t : Bool). cond t (entry ys i) 0) e
 
@@ -75,4 +75,4 @@ module _ (ss : List Section) (codes : (i : ℕ) → i < length ss → sectionOf 
   closed-even =
       let a = givenAcross ss d left in
       let within : (i : ℕ) → entry a i ≤ entry left i = λ i. omega (arith, giving .each i, chosen-within ss facing left i) in
-      omega (arith, closed, more, lots-less ss (λ (s : Section). mine (positionOf s)) left a within, lots-less ss (λ (s : Section). other (positionOf s)) left a within, side-all ss facing mine left a (giving .long) (giving .each) (λ i h e. faced (positionOf (sectionOf ss i)) ∙ e), side-none ss facing other left a (giving .long) (giving .each) (λ i h e. faced (positionOf (sectionOf ss i)) ∙ apart (positionOf (sectionOf ss i)) e))
+      omega (arith, closed, more, lots-less ss (λ (s : Section). mine (positionOf s)) left a within, lots-less ss (λ (s : Section). other (positionOf s)) left a within, side-all ss facing left a (giving .long) (giving .each) mine (λ i h e. faced (positionOf (sectionOf ss i)) ∙ e), lots-none ss facing left a (giving .long) (giving .each) (λ (s : Section). other (positionOf s)) (λ i h e. faced (positionOf (sectionOf ss i)) ∙ apart (positionOf (sectionOf ss i)) e))

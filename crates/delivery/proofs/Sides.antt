@@ -12,7 +12,7 @@ use borrow.Author.Tests.{lt-ltb, le-ltb}
 use Rattle.numbers.specs.Lists.{_and_, counted, listed, entry, less}
 use Rattle.numbers.specs.Sums.{total, totalℤ}
 use Rattle.numbers.proofs.Sums.{naturals, wholes, total-kept, total-difference}
-use Rattle.numbers.proofs.Ranges.{listed-at, listed-past, listed-length, less-at, getD-past, sum-same, sum-both, sum-classes, sum-within, chosen-yes, chosen-no}
+use Rattle.numbers.proofs.Ranges.{listed-at, listed-past, listed-length, less-at, getD-past, sum-same, sum-both, sum-classes, sum-within, total-entries}
 use Rattle.numbers.proofs.Tests.{below-or-not, same-or-not}
 use Rattle.rules.specs.declared.book.Section.{Section}
 use Rattle.rules.specs.Book.{positionOf, sectionOf}
@@ -50,6 +50,15 @@ module _ (ss : List Section) where
       go : (t : Bool) (i : ℕ) → cond t (entry (less xs ys) i) 0 + cond t (entry ys i) 0 ≡ cond t (entry xs i) 0
       go true i = omega (arith, less-at xs ys i, le i)
       go false i = refl
+
+  -- some of them are at most all
+  pub lots-most : (test : Section → Bool) (xs : List ℕ) → length xs ≡ length ss → lotsOf test xs ≤ total xs
+  lots-most test xs long =
+      subst (λ (n : ℕ). lotsOf test xs ≤ n) (ap (λ (n : ℕ). total (listed n (entry xs))) (sym long) ∙ total-entries xs) (sum-within (length ss) _ _ (λ i h. go (test (sectionOf ss i)) (entry xs i)))
+    where
+      go : (t : Bool) (x : ℕ) → cond t x 0 ≤ x
+      go true x = omega arith
+      go false x = omega arith
 
   -- a side, code by code
   pub side-classes : (side : ℤ → Bool) (xs : List ℕ) → ((i : ℕ) → i < length ss → sectionOf ss i .settlement < 64) → total (listed 64 (λ (c : ℕ). sideOf side c xs)) ≡ allOf side xs

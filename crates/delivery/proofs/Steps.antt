@@ -2,7 +2,7 @@
 use Prim.Native.Nat.{ℕ, zero, suc, _+_, _-_, _≤_, _<_, min}
 use native.Mathlib.Omega.{arith}
 use mathlib.Core.Path.{_≡_, refl, sym, ap, ap₂, subst, _∙_}
-use mathlib.Core.Bool.{Bool, true, false, not, cond, _&&_, _||_}
+use mathlib.Core.Bool.{Bool, true, false, not, cond, _&&_, _||_, false≢true}
 use mathlib.Core.List.{List, [], map, map-map}
 use mathlib.Core.Logic.{_⊎_, inl, inr, ⊎-elim}
 use lib.Dec.{eqb, ltb}
@@ -27,7 +27,8 @@ use Rattle.rules.specs.Expiry.Across.{leftOpen, codeCaps, givenAcross}
 use Rattle.rules.specs.Expiry.Outside.{outside}
 use Rattle.rules.specs.Expiry.Call.{delivered}
 use Rattle.delivery.proofs.Greedy.{ofCode, Given, given, given-by-code}
-use Rattle.delivery.proofs.Sides.{lotsOf, sideOf, allOf, Within, lots-less, side-classes, net-sides, code-sides, sum-difference, on-side, chosen-within}
+use Rattle.delivery.proofs.Across.{closed-even, chosen-of-code, left-out, lots-none}
+use Rattle.delivery.proofs.Sides.{lotsOf, sideOf, allOf, Within, lots-less, lots-most, side-classes, net-sides, code-sides, sum-difference, on-side, chosen-within}
 
 -- one of a whole number's two sides is 0
 one-side : (z : ℤ) → (plus z ≡ 0) ⊎ (minus z ≡ 0)
@@ -58,6 +59,42 @@ module _ (x y : ℕ) where
   difference-short =
       let z = pos x -ℤ pos y in
       ltZ-sides z (pos 0) ∙ ltb-as (plus z + 0) (0 + minus z) x y (λ h. omega (arith, difference (pos x) (pos y), h)) (λ h. omega (arith, difference (pos x) (pos y), h))
+
+-- what one number has over another, where it has more
+over-other : (a b : ℕ) → cond (ltb b a) ((b - a) + (a - b)) 0 ≡ a - b
+over-other a b = go (ltb b a) refl
+  where
+    go : (t : Bool) → ltb b a ≡ t → cond t ((b - a) + (a - b)) 0 ≡ a - b
+    go true e = omega (arith, ltb-true b a e)
+    go false e = omega (arith, ltb-false b a e)
+
+-- no position is both long and short
+pub long-not-short : (p : ℤ) → isLong p ≡ true → isShort p ≡ false
+long-not-short (pos n) e = le-ltb n 0 (omega arith)
+long-not-short (negsuc n) e = absurd (false≢true e)
+
+pub short-not-long : (p : ℤ) → isShort p ≡ true → isLong p ≡ false
+short-not-long (pos n) e = absurd (omega (arith, ltb-true n 0 e))
+short-not-long (negsuc n) e = refl
+
+-- what faces a long number is short, and the other way round
+faces-long : (p d : ℤ) → isLong d ≡ true → opposed p d ≡ isShort p
+faces-long p d e = rw (e, long-not-short d e) (go (isLong p) (isShort p))
+  where
+    go : (a b : Bool) → (a && false || b && true) ≡ b
+    go true true = refl
+    go true false = refl
+    go false true = refl
+    go false false = refl
+
+faces-short : (p d : ℤ) → isShort d ≡ true → opposed p d ≡ isLong p
+faces-short p d e = rw (e, short-not-long d e) (go (isLong p) (isShort p))
+  where
+    go : (a b : Bool) → (a && true || b && false) ≡ a
+    go true true = refl
+    go true false = refl
+    go false true = refl
+    go false false = refl
 
 -- a section's lots are its position's size
 sizes-at : (ss : List Section) (i : ℕ) → entry (map Expiry.size ss) i ≡ Expiry.size (sectionOf ss i)
@@ -173,10 +210,47 @@ module _ (ss : List Section) (ns : List Notice) (codes : (i : ℕ) → i < lengt
   left-open : allOf ss isShort left + (allOf ss isShort failed + allOf ss isShort inCodes) ≡ allOf ss isLong left + (allOf ss isLong failed + allOf ss isLong inCodes)
   left-open = omega (arith, made-up isLong, made-up isShort, sizes-even)
 
-  -- step 3 closes exactly what is open. `mine` is the side that gives, `other` the side of what is open
-  module _ (mine other : ℤ → Bool) (faced : (p : ℤ) → opposed p open′ ≡ mine p) (net-cap : (c : ℕ) → c < 64 → entry (codeCaps ss open′ left) c ≡ sideOf ss mine c left - sideOf ss other c left) (more : natAbs open′ + allOf ss other left ≡ allOf ss mine left) where
-    lots : List ℕ
-    lots = chosen ss (λ (s : Section). opposed (positionOf s) open′) left
+  -- what is delivered, and what each has at least
+  pub kept-is : delivered ss ns ≡ less left across
+  unfolding delivered
+  kept-is = refl
 
-    across-total : total across ≡ natAbs open′
-    across-total = ?
+  -- step 3 gives from the side that faces what is open
+  kept-even-from : (mine other : ℤ → Bool) → ((p : ℤ) → opposed p open′ ≡ mine p) → ((p : ℤ) → other p ≡ true → mine p ≡ false) → ((c : ℕ) → mine (netOfCode ss left c) ≡ ltb (sideOf ss other c left) (sideOf ss mine c left)) → ((c : ℕ) → natAbs (netOfCode ss left c) ≡ (sideOf ss other c left - sideOf ss mine c left) + (sideOf ss mine c left - sideOf ss other c left)) → natAbs open′ + allOf ss other left ≡ allOf ss mine left → allOf ss mine (less left across) ≡ allOf ss other (less left across)
+  unfolding codeCaps
+  kept-even-from mine other faced apart side-of-net size-of-net more = closed-even ss codes left open′ mine other faced apart cap more
+    where
+      cap : (c : ℕ) → c < 64 → entry (codeCaps ss open′ left) c ≡ sideOf ss mine c left - sideOf ss other c left
+      cap c h =
+          listed-at 64 (λ (e : ℕ). cond (opposed (netOfCode ss left e) open′) (natAbs (netOfCode ss left e)) 0) c 0 h
+          ∙ ap₂ (λ (t : Bool) (n : ℕ). cond t n 0) (faced (netOfCode ss left c) ∙ side-of-net c) (size-of-net c)
+          ∙ over-other (sideOf ss mine c left) (sideOf ss other c left)
+
+  pub kept-even : allOf ss isLong (delivered ss ns) ≡ allOf ss isShort (delivered ss ns)
+  unfolding Within
+  kept-even = subst (λ (xs : List ℕ). allOf ss isLong xs ≡ allOf ss isShort xs) (sym kept-is) (⊎-elim above (λ h. ⊎-elim below (level h) (below-or-not x y)) (below-or-not y x))
+    where
+      x : ℕ
+      x = allOf ss isLong failed + allOf ss isLong inCodes
+      y : ℕ
+      y = allOf ss isShort failed + allOf ss isShort inCodes
+      size-of-open : natAbs open′ ≡ (x - y) + (y - x)
+      size-of-open = ap natAbs open-sides ∙ difference-size x y
+      net-size : (c : ℕ) → natAbs (netOfCode ss left c) ≡ (sideOf ss isLong c left - sideOf ss isShort c left) + (sideOf ss isShort c left - sideOf ss isLong c left)
+      net-size c = ap natAbs (net-sides ss left within-left c) ∙ difference-size (sideOf ss isLong c left) (sideOf ss isShort c left)
+      above : y < x → allOf ss isLong (less left across) ≡ allOf ss isShort (less left across)
+      above h =
+          sym
+          (kept-even-from isShort isLong (λ p. faces-long p open′ (ap isLong open-sides ∙ difference-long x y ∙ lt-ltb y x h)) long-not-short
+          (λ c. ap isShort (net-sides ss left within-left c) ∙ difference-short (sideOf ss isLong c left) (sideOf ss isShort c left)) net-size (omega (arith, h, size-of-open, left-open)))
+      below : x < y → allOf ss isLong (less left across) ≡ allOf ss isShort (less left across)
+      below h =
+          kept-even-from isLong isShort (λ p. faces-short p open′ (ap isShort open-sides ∙ difference-short x y ∙ lt-ltb x y h)) short-not-long
+          (λ c. ap isLong (net-sides ss left within-left c) ∙ difference-long (sideOf ss isLong c left) (sideOf ss isShort c left)) (λ c. omega (arith, net-size c)) (omega (arith, h, size-of-open, left-open))
+      level : x ≤ y → y ≤ x → allOf ss isLong (less left across) ≡ allOf ss isShort (less left across)
+      level h k =
+          omega (arith, h, k, left-open, size-of-open, across-given .needed, lots-most ss (λ (s : Section). isLong (positionOf s)) across (across-given .long), lots-most ss (λ (s : Section). isShort (positionOf s)) across (across-given .long), lots-less ss (λ (s : Section). isLong (positionOf s)) left across across-within, lots-less ss (λ (s : Section). isShort (positionOf s)) left across across-within)
+
+  pub within-kept : Within ss (delivered ss ns)
+  unfolding Within
+  within-kept i = omega (arith, ap (λ (xs : List ℕ). entry xs i) kept-is, less-at left across i, within-left i)
