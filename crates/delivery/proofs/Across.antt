@@ -64,7 +64,7 @@ module _ (ss : List Section) (codes : (i : ℕ) → i < length ss → sectionOf 
   at-least each =
       let a = givenAcross ss d left in
       let by-code : total (listed 64 (λ (c : ℕ). ofCode ss c a)) ≡ total a =
-              sum-classes _+_ 0 naturals (length ss) 64 (λ (i : ℕ). sectionOf ss i .settlement) (entry a) codes ∙ ap (λ (n : ℕ). total (listed n (entry a))) (sym (giving .long)) ∙ total-entries a in
+      sum-classes _+_ 0 naturals (length ss) 64 (λ (i : ℕ). sectionOf ss i .settlement) (entry a) codes ∙ ap (λ (n : ℕ). total (listed n (entry a))) (sym (giving .long)) ∙ total-entries a in
       omega (arith, sum-within 64 (λ (c : ℕ). sideOf ss mine c left) (λ (c : ℕ). ofCode ss c a + sideOf ss other c left) (λ c h. omega (arith, each c, net-cap c h, chosen-of-code ss facing mine left c (λ i k e. faced (positionOf (sectionOf ss i))))), sum-both _+_ 0 naturals 64 (λ (c : ℕ). ofCode ss c a) (λ (c : ℕ). sideOf ss other c left), by-code, side-classes ss mine left codes, side-classes ss other left codes)
 
   pub closed : total (givenAcross ss d left) ≡ natAbs d

@@ -9,3 +9,4 @@ pub mod Elevators
 pub mod Formed
 pub mod Register
 pub mod Count
+pub mod Inside

@@ -45,17 +45,17 @@ ltb-as a b c d yes′ no′ = go (ltb c d) refl
 
 -- the sign and the size of a difference of natural numbers
 module _ (x y : ℕ) where
-  difference-size : natAbs (pos x -ℤ pos y) ≡ (x - y) + (y - x)
+  pub difference-size : natAbs (pos x -ℤ pos y) ≡ (x - y) + (y - x)
   difference-size =
       let z = pos x -ℤ pos y in
       ⊎-elim (λ e. omega (arith, size z, difference (pos x) (pos y), e)) (λ e. omega (arith, size z, difference (pos x) (pos y), e)) (one-side z)
 
-  difference-long : isLong (pos x -ℤ pos y) ≡ ltb y x
+  pub difference-long : isLong (pos x -ℤ pos y) ≡ ltb y x
   difference-long =
       let z = pos x -ℤ pos y in
       ltZ-sides (pos 0) z ∙ ltb-as (0 + minus z) (plus z + 0) y x (λ h. omega (arith, difference (pos x) (pos y), h)) (λ h. omega (arith, difference (pos x) (pos y), h))
 
-  difference-short : isShort (pos x -ℤ pos y) ≡ ltb x y
+  pub difference-short : isShort (pos x -ℤ pos y) ≡ ltb x y
   difference-short =
       let z = pos x -ℤ pos y in
       ltZ-sides z (pos 0) ∙ ltb-as (plus z + 0) (0 + minus z) x y (λ h. omega (arith, difference (pos x) (pos y), h)) (λ h. omega (arith, difference (pos x) (pos y), h))
@@ -232,21 +232,27 @@ module _ (ss : List Section) (ns : List Notice) (codes : (i : ℕ) → i < lengt
     where
       x : ℕ
       x = allOf ss isLong failed + allOf ss isLong inCodes
+
       y : ℕ
       y = allOf ss isShort failed + allOf ss isShort inCodes
+
       size-of-open : natAbs open′ ≡ (x - y) + (y - x)
       size-of-open = ap natAbs open-sides ∙ difference-size x y
+
       net-size : (c : ℕ) → natAbs (netOfCode ss left c) ≡ (sideOf ss isLong c left - sideOf ss isShort c left) + (sideOf ss isShort c left - sideOf ss isLong c left)
       net-size c = ap natAbs (net-sides ss left within-left c) ∙ difference-size (sideOf ss isLong c left) (sideOf ss isShort c left)
+
       above : y < x → allOf ss isLong (less left across) ≡ allOf ss isShort (less left across)
       above h =
           sym
           (kept-even-from isShort isLong (λ p. faces-long p open′ (ap isLong open-sides ∙ difference-long x y ∙ lt-ltb y x h)) long-not-short
           (λ c. ap isShort (net-sides ss left within-left c) ∙ difference-short (sideOf ss isLong c left) (sideOf ss isShort c left)) net-size (omega (arith, h, size-of-open, left-open)))
+
       below : x < y → allOf ss isLong (less left across) ≡ allOf ss isShort (less left across)
       below h =
           kept-even-from isLong isShort (λ p. faces-short p open′ (ap isShort open-sides ∙ difference-short x y ∙ lt-ltb x y h)) short-not-long
           (λ c. ap isLong (net-sides ss left within-left c) ∙ difference-long (sideOf ss isLong c left) (sideOf ss isShort c left)) (λ c. omega (arith, net-size c)) (omega (arith, h, size-of-open, left-open))
+
       level : x ≤ y → y ≤ x → allOf ss isLong (less left across) ≡ allOf ss isShort (less left across)
       level h k =
           omega (arith, h, k, left-open, size-of-open, across-given .needed, lots-most ss (λ (s : Section). isLong (positionOf s)) across (across-given .long), lots-most ss (λ (s : Section). isShort (positionOf s)) across (across-given .long), lots-less ss (λ (s : Section). isLong (positionOf s)) left across across-within, lots-less ss (λ (s : Section). isShort (positionOf s)) left across across-within)
