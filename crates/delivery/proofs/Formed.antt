@@ -23,7 +23,8 @@ use Rattle.delivery.proofs.StageTwo.{lineLots, livePairs, liveElevators
 -- what the lines of a pass come to: each buyer's lots and each notice's drawn lots are all in them, and they are fewer than the buyers and the notices with lots
 pub record Formed (ss : List Section) (ns : List Notice) (pass : Pass) : Type 0 where
   pub by-buyer : (b : ℕ) → lineLots (λ (l : Line). eqb (l .buyer) b) (linesOf ss ns pass) ≡ entry (pass .buyers) b
-  pub by-notice : (test : ℕ → ℕ → Bool) → lineLots (λ (l : Line). test (l .seller) (l .elevator)) (linesOf ss ns pass) ≡ total (listed (length ns) (λ (k : ℕ). cond (test (noticeOf ns k .section) (noticeOf ns k .elevator)) (entry (pass .drawn) k) 0))
+  pub by-notice : (test : ℕ → ℕ → Bool) → lineLots (λ (l : Line). test (l .seller) (l .elevator)) (linesOf ss ns pass)
+      ≡ total (listed (length ns) (λ (k : ℕ). cond (test (noticeOf ns k .section) (noticeOf ns k .elevator)) (entry (pass .drawn) k) 0))
   pub few : (linesOf ss ns pass ≡ []) ⊎ (length (linesOf ss ns pass) + 1 ≤ live (length ss) (entry (pass .buyers)) + live (length ns) (entry (pass .drawn)))
 
 -- General laws of counts

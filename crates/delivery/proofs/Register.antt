@@ -111,6 +111,11 @@ module _ (ss : List Section) (ns : List Notice) (near far inside outside : List 
   abbrev pub allLines : List Line
   allLines = flatMap (linesOf ss ns) (listed 64 insideAt ++ (outsideAll ∷ []))
 
+  -- what is drawn of a section's notices, inside and outside
+  abbrev pub drawnFor : ℕ → ℕ
+  drawnFor i = total (listed (length ns) (λ (k : ℕ). cond (eqb (noticeOf ns k .section) i) (entry inside k + entry outside k) 0))
+
+  -- their lots and their number, pass by pass
   pub all-lots : (test : Line → Bool) → lineLots test allLines ≡ total (listed 64 (λ (c : ℕ). lineLots test (linesOf ss ns (insideAt c)))) + lineLots test (linesOf ss ns outsideAll)
   unfolding gathered
   all-lots test = measured-last (lineLots test) refl (lots-append test) (linesOf ss ns) 64 insideAt outsideAll
@@ -118,7 +123,8 @@ module _ (ss : List Section) (ns : List Notice) (near far inside outside : List 
   pub all-length : length allLines ≡ total (listed 64 (λ (c : ℕ). length (linesOf ss ns (insideAt c)))) + length (linesOf ss ns outsideAll)
   all-length = measured-last length refl length-append (linesOf ss ns) 64 insideAt outsideAll
 
-  module _ (codes : (i : ℕ) → i < length ss → sectionOf ss i .settlement < 64) (sections : (k : ℕ) → k < length ns → noticeOf ns k .section < length ss) (formed-inside : (c : ℕ) → c < 64 → Formed ss ns (insideAt c)) (formed-outside : Formed ss ns outsideAll) where
+  module _ (codes : (i : ℕ) → i < length ss → sectionOf ss i .settlement < 64) (sections : (k : ℕ) → k < length ns → noticeOf ns k .section < length ss)
+      (formed-inside : (c : ℕ) → c < 64 → Formed ss ns (insideAt c)) (formed-outside : Formed ss ns outsideAll) where
     -- a long section buys its inside and outside lots
     pub buyer-lots : (b : ℕ) → b < length ss → lineLots (λ (l : Line). eqb (l .buyer) b) allLines ≡ cond (isLong (positionOf (sectionOf ss b))) (entry near b + entry far b) 0
     unfolding insidePass outsidePass
@@ -133,13 +139,14 @@ module _ (ss : List Section) (ns : List Notice) (near far inside outside : List 
         ∙ under-both long (entry near b) (entry far b)
 
     -- a notice sells what is drawn of it, inside and outside
-    pub notice-lots : (test : ℕ → ℕ → Bool) → lineLots (λ (l : Line). test (l .seller) (l .elevator)) allLines ≡ total (listed (length ns) (λ (k : ℕ). cond (test (noticeOf ns k .section) (noticeOf ns k .elevator)) (entry inside k + entry outside k) 0))
+    pub notice-lots : (test : ℕ → ℕ → Bool) → lineLots (λ (l : Line). test (l .seller) (l .elevator)) allLines
+        ≡ total (listed (length ns) (λ (k : ℕ). cond (test (noticeOf ns k .section) (noticeOf ns k .elevator)) (entry inside k + entry outside k) 0))
     unfolding insidePass outsidePass
     notice-lots test =
         let passes : ℕ → Bool = λ (k : ℕ). test (noticeOf ns k .section) (noticeOf ns k .elevator) in
         let code : ℕ → ℕ = λ (k : ℕ). sectionOf ss (noticeOf ns k .section) .settlement in
-        let near : ℕ → ℕ = λ (k : ℕ). cond (passes k) (entry inside k) 0 in
-        let far : ℕ → ℕ = λ (k : ℕ). cond (passes k) (entry outside k) 0 in
+        let of-inside : ℕ → ℕ = λ (k : ℕ). cond (passes k) (entry inside k) 0 in
+        let of-outside : ℕ → ℕ = λ (k : ℕ). cond (passes k) (entry outside k) 0 in
         all-lots (λ (l : Line). test (l .seller) (l .elevator))
         ∙ ap₂ _+_
         (sum-same _+_ 0 naturals 64 _ _
@@ -147,14 +154,10 @@ module _ (ss : List Section) (ns : List Notice) (near far inside outside : List 
         formed-inside c l .by-notice test
         ∙ sum-same _+_ 0 naturals (length ns) _ _
         (λ k h. ap (λ (n : ℕ). cond (passes k) n 0) (listed-at (length ns) _ k 0 h) ∙ under-swapped (passes k) (eqb (code k) c) (entry inside k)))
-        ∙ sum-classes _+_ 0 naturals (length ns) 64 code near (λ k h. codes (noticeOf ns k .section) (sections k h)))
+        ∙ sum-classes _+_ 0 naturals (length ns) 64 code of-inside (λ k h. codes (noticeOf ns k .section) (sections k h)))
         (formed-outside .by-notice test)
-        ∙ sym (sum-both _+_ 0 naturals (length ns) near far)
+        ∙ sym (sum-both _+_ 0 naturals (length ns) of-inside of-outside)
         ∙ sum-same _+_ 0 naturals (length ns) _ _ (λ k h. under-both (passes k) (entry inside k) (entry outside k))
-
-    -- what is drawn of a section's notices, inside and outside
-    abbrev pub drawnFor : ℕ → ℕ
-    drawnFor i = total (listed (length ns) (λ (k : ℕ). cond (eqb (noticeOf ns k .section) i) (entry inside k + entry outside k) 0))
 
     -- a section's lots in the register, bought or sold, are its inside and outside lots, where the notices have those of a short section and none of any other
     pub register-section : (i : ℕ) → i < length ss
@@ -183,4 +186,3 @@ module _ (ss : List Section) (ns : List Notice) (near far inside outside : List 
         go true short e e′ = omega (arith, either, bought true e, sold, of-long e)
         go false true e e′ = omega (arith, either, bought false e, sold, of-short e′)
         go false false e e′ = omega (arith, either, bought false e, sold, of-none e e′)
-
