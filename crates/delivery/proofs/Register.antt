@@ -1,19 +1,104 @@
 -- All passes: the register's lots by buyer and by notice.
 use Prim.Native.Nat.{ℕ, _+_, _≤_, _<_}
-use mathlib.Core.Path.{_≡_}
-use mathlib.Core.Bool.{Bool, cond}
-use mathlib.Core.List.{List, [], _∷_, _++_, flatMap}
+use native.Mathlib.Nat.{add-zero}
+use native.Mathlib.Omega.{arith}
+use mathlib.Core.Path.{_≡_, refl, sym, ap, ap₂, _∙_}
+use mathlib.Core.Bool.{Bool, true, false, cond, _&&_, _||_}
+use mathlib.Core.List.{List, [], _∷_, _++_, map, map-append, map-map, flatMap}
 use lib.Dec.{eqb}
-use lib.ListN.{length}
-use Rattle.numbers.specs.Lists.{listed, entry}
-use Rattle.numbers.specs.Sums.{total}
+use lib.ListN.{length, length-append}
+use lib.IntN.{ℤ}
+use Rattle.numbers.specs.Lists.{counted, listed, entry}
+use Rattle.numbers.specs.Sums.{gathered, total}
+use Rattle.numbers.proofs.Sums.{naturals, total-append, total-map}
+use Rattle.numbers.proofs.Ranges.{listed-at, sum-same, sum-both, sum-one, sum-classes}
 use Rattle.rules.specs.declared.book.Section.{Section}
 use Rattle.rules.specs.declared.book.Notice.{Notice}
 use Rattle.rules.specs.Book.{positionOf, sectionOf, noticeOf}
-use Rattle.rules.specs.Expiry.{isLong}
+use Rattle.rules.specs.Expiry.{isLong, isShort}
 use Rattle.rules.specs.Expiry.Passes.{Line, Pass, linesOf, insidePass, outsidePass}
 use Rattle.delivery.proofs.StageTwo.{lineLots}
 use Rattle.delivery.proofs.Formed.{Formed}
+
+-- General laws of sums
+
+-- a measure of lists that adds up over an append, of the lists that the entries of a list stand for
+module _ {A B : Type 0} (measure : List B → ℕ) (none : measure [] ≡ 0) (joined : (xs ys : List B) → measure (xs ++ ys) ≡ measure xs + measure ys) (g : A → List B) where
+  measured : (xs : List A) → measure (flatMap g xs) ≡ total (map (λ (x : A). measure (g x)) xs)
+  unfolding flatMap gathered
+  measured [] = none
+  measured (x ∷ xs) = joined (g x) (flatMap g xs) ∙ ap (λ (n : ℕ). measure (g x) + n) (measured xs)
+
+  -- of n entries and one more
+  measured-last : (n : ℕ) (f : ℕ → A) (y : A) → measure (flatMap g (listed n f ++ (y ∷ []))) ≡ total (listed n (λ (c : ℕ). measure (g (f c)))) + measure (g y)
+  unfolding gathered
+  measured-last n f y =
+      let m : A → ℕ = λ (x : A). measure (g x) in
+      measured (listed n f ++ (y ∷ []))
+      ∙ ap total (map-append m (listed n f) (y ∷ []))
+      ∙ total-append _+_ 0 naturals (map m (listed n f)) (m y ∷ [])
+      ∙ ap₂ _+_ (ap total (map-map m f (counted 0 n))) (add-zero (m y))
+
+-- sums of what is read of the entries are ordered as what is read
+total-within : {A : Type 0} (f g : A → ℕ) → ((x : A) → f x ≤ g x) → (xs : List A) → total (map f xs) ≤ total (map g xs)
+unfolding gathered
+total-within f g le [] = omega arith
+total-within f g le (x ∷ xs) = omega (arith, le x, total-within f g le xs)
+
+-- General laws of what is read under a test
+
+-- of a sum
+under-both : (t : Bool) (x y : ℕ) → cond t x 0 + cond t y 0 ≡ cond t (x + y) 0
+under-both true x y = refl
+under-both false x y = refl
+
+-- under two tests, in either order
+under-two : (s t : Bool) (x : ℕ) → cond (s && t) x 0 ≡ cond t (cond s x 0) 0
+under-two true t x = refl
+under-two false true x = refl
+under-two false false x = refl
+
+under-swapped : (s t : Bool) (x : ℕ) → cond s (cond t x 0) 0 ≡ cond t (cond s x 0) 0
+under-swapped true t x = refl
+under-swapped false true x = refl
+under-swapped false false x = refl
+
+-- under one of two tests
+under-left : (s t : Bool) (x : ℕ) → cond s x 0 ≤ cond (s || t) x 0
+under-left true t x = omega arith
+under-left false t x = omega arith
+
+under-right : (s t : Bool) (x : ℕ) → cond t x 0 ≤ cond (s || t) x 0
+under-right true true x = omega arith
+under-right true false x = omega arith
+under-right false t x = omega arith
+
+under-either : (s t : Bool) (x : ℕ) → cond (s || t) x 0 ≤ cond s x 0 + cond t x 0
+under-either true t x = omega arith
+under-either false t x = omega arith
+
+-- the lots of lines that pass one of two tests
+module _ (a b : Line → Bool) (ls : List Line) where
+  record Either : Type 0 where
+    left : lineLots a ls ≤ lineLots (λ (l : Line). a l || b l) ls
+    right : lineLots b ls ≤ lineLots (λ (l : Line). a l || b l) ls
+    most : lineLots (λ (l : Line). a l || b l) ls ≤ lineLots a ls + lineLots b ls
+
+  either-lots : Either
+  either-lots =
+      let read : (Line → Bool) → Line → ℕ = λ (test : Line → Bool) (l : Line). cond (test l) (l .lots) 0 in
+      record {
+        left = total-within _ _ (λ l. under-left (a l) (b l) (l .lots)) ls;
+        right = total-within _ _ (λ l. under-right (a l) (b l) (l .lots)) ls;
+        most = omega (
+          arith,
+          total-within (λ (l : Line). cond (a l || b l) (l .lots) 0) (λ (l : Line). read a l + read b l) (λ l. under-either (a l) (b l) (l .lots)) ls,
+          total-map _+_ 0 naturals (read a) (read b) ls,
+        );
+      }
+
+lots-append : (test : Line → Bool) (xs ys : List Line) → lineLots test (xs ++ ys) ≡ lineLots test xs + lineLots test ys
+lots-append test xs ys = ap total (map-append _ xs ys) ∙ total-append _+_ 0 naturals _ _
 
 module _ (ss : List Section) (ns : List Notice) (near far inside outside : List ℕ) where
   -- the passes, and all their lines
@@ -26,17 +111,78 @@ module _ (ss : List Section) (ns : List Notice) (near far inside outside : List 
   abbrev pub allLines : List Line
   allLines = flatMap (linesOf ss ns) (listed 64 insideAt ++ (outsideAll ∷ []))
 
+  -- what is drawn of a section's notices, inside and outside
+  abbrev pub drawnFor : ℕ → ℕ
+  drawnFor i = total (listed (length ns) (λ (k : ℕ). cond (eqb (noticeOf ns k .section) i) (entry inside k + entry outside k) 0))
+
+  -- their lots and their number, pass by pass
   pub all-lots : (test : Line → Bool) → lineLots test allLines ≡ total (listed 64 (λ (c : ℕ). lineLots test (linesOf ss ns (insideAt c)))) + lineLots test (linesOf ss ns outsideAll)
-  all-lots test = ?
+  unfolding gathered
+  all-lots test = measured-last (lineLots test) refl (lots-append test) (linesOf ss ns) 64 insideAt outsideAll
 
   pub all-length : length allLines ≡ total (listed 64 (λ (c : ℕ). length (linesOf ss ns (insideAt c)))) + length (linesOf ss ns outsideAll)
-  all-length = ?
+  all-length = measured-last length refl length-append (linesOf ss ns) 64 insideAt outsideAll
 
-  module _ (codes : (i : ℕ) → i < length ss → sectionOf ss i .settlement < 64) (sections : (k : ℕ) → k < length ns → noticeOf ns k .section < length ss) (formed-inside : (c : ℕ) → c < 64 → Formed ss ns (insideAt c)) (formed-outside : Formed ss ns outsideAll) where
+  module _ (codes : (i : ℕ) → i < length ss → sectionOf ss i .settlement < 64) (sections : (k : ℕ) → k < length ns → noticeOf ns k .section < length ss)
+      (formed-inside : (c : ℕ) → c < 64 → Formed ss ns (insideAt c)) (formed-outside : Formed ss ns outsideAll) where
     -- a long section buys its inside and outside lots
     pub buyer-lots : (b : ℕ) → b < length ss → lineLots (λ (l : Line). eqb (l .buyer) b) allLines ≡ cond (isLong (positionOf (sectionOf ss b))) (entry near b + entry far b) 0
-    buyer-lots b h = ?
+    unfolding insidePass outsidePass
+    buyer-lots b h =
+        let long = isLong (positionOf (sectionOf ss b)) in
+        let code = sectionOf ss b .settlement in
+        all-lots (λ (l : Line). eqb (l .buyer) b)
+        ∙ ap₂ _+_
+        (sum-same _+_ 0 naturals 64 _ _ (λ c l. formed-inside c l .by-buyer b ∙ listed-at (length ss) _ b 0 h ∙ under-two long (eqb code c) (entry near b))
+        ∙ sum-one _+_ 0 naturals 64 code (cond long (entry near b) 0) (codes b h))
+        (formed-outside .by-buyer b ∙ listed-at (length ss) _ b 0 h)
+        ∙ under-both long (entry near b) (entry far b)
 
     -- a notice sells what is drawn of it, inside and outside
-    pub notice-lots : (test : ℕ → ℕ → Bool) → lineLots (λ (l : Line). test (l .seller) (l .elevator)) allLines ≡ total (listed (length ns) (λ (k : ℕ). cond (test (noticeOf ns k .section) (noticeOf ns k .elevator)) (entry inside k + entry outside k) 0))
-    notice-lots test = ?
+    pub notice-lots : (test : ℕ → ℕ → Bool) → lineLots (λ (l : Line). test (l .seller) (l .elevator)) allLines
+        ≡ total (listed (length ns) (λ (k : ℕ). cond (test (noticeOf ns k .section) (noticeOf ns k .elevator)) (entry inside k + entry outside k) 0))
+    unfolding insidePass outsidePass
+    notice-lots test =
+        let passes : ℕ → Bool = λ (k : ℕ). test (noticeOf ns k .section) (noticeOf ns k .elevator) in
+        let code : ℕ → ℕ = λ (k : ℕ). sectionOf ss (noticeOf ns k .section) .settlement in
+        let of-inside : ℕ → ℕ = λ (k : ℕ). cond (passes k) (entry inside k) 0 in
+        let of-outside : ℕ → ℕ = λ (k : ℕ). cond (passes k) (entry outside k) 0 in
+        all-lots (λ (l : Line). test (l .seller) (l .elevator))
+        ∙ ap₂ _+_
+        (sum-same _+_ 0 naturals 64 _ _
+        (λ c l.
+        formed-inside c l .by-notice test
+        ∙ sum-same _+_ 0 naturals (length ns) _ _
+        (λ k h. ap (λ (n : ℕ). cond (passes k) n 0) (listed-at (length ns) _ k 0 h) ∙ under-swapped (passes k) (eqb (code k) c) (entry inside k)))
+        ∙ sum-classes _+_ 0 naturals (length ns) 64 code of-inside (λ k h. codes (noticeOf ns k .section) (sections k h)))
+        (formed-outside .by-notice test)
+        ∙ sym (sum-both _+_ 0 naturals (length ns) of-inside of-outside)
+        ∙ sum-same _+_ 0 naturals (length ns) _ _ (λ k h. under-both (passes k) (entry inside k) (entry outside k))
+
+    -- a section's lots in the register, bought or sold, are its inside and outside lots, where the notices have those of a short section and none of any other
+    pub register-section : (i : ℕ) → i < length ss
+        → (isLong (positionOf (sectionOf ss i)) ≡ true → drawnFor i ≡ 0)
+        → (isShort (positionOf (sectionOf ss i)) ≡ true → drawnFor i ≡ entry near i + entry far i)
+        → (isLong (positionOf (sectionOf ss i)) ≡ false → isShort (positionOf (sectionOf ss i)) ≡ false → (drawnFor i ≡ 0) × (entry near i + entry far i ≡ 0))
+        → lineLots (λ (l : Line). eqb (l .buyer) i || eqb (l .seller) i) allLines ≡ entry near i + entry far i
+    register-section i h of-long of-short of-none = go (isLong p) (isShort p) refl refl
+      where
+        p : ℤ
+        p = positionOf (sectionOf ss i)
+
+        lots : ℕ
+        lots = entry near i + entry far i
+
+        either : Either (λ (l : Line). eqb (l .buyer) i) (λ (l : Line). eqb (l .seller) i) allLines
+        either = either-lots (λ (l : Line). eqb (l .buyer) i) (λ (l : Line). eqb (l .seller) i) allLines
+
+        bought : (t : Bool) → isLong p ≡ t → lineLots (λ (l : Line). eqb (l .buyer) i) allLines ≡ cond t lots 0
+        bought t e = buyer-lots i h ∙ ap (λ (s : Bool). cond s lots 0) e
+
+        sold : lineLots (λ (l : Line). eqb (l .seller) i) allLines ≡ drawnFor i
+        sold = notice-lots (λ (s e : ℕ). eqb s i)
+
+        go : (long short : Bool) → isLong p ≡ long → isShort p ≡ short → lineLots (λ (l : Line). eqb (l .buyer) i || eqb (l .seller) i) allLines ≡ lots
+        go true short e e′ = omega (arith, either, bought true e, sold, of-long e)
+        go false true e e′ = omega (arith, either, bought false e, sold, of-short e′)
+        go false false e e′ = omega (arith, either, bought false e, sold, of-none e e′)
