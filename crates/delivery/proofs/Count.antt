@@ -1,10 +1,10 @@
 -- The register's lines are fewer than the delivering long sections and the drawn notices together.
-use Prim.Native.Nat.{ℕ, zero, suc, _+_, _≤_, _<_, min}
+use Prim.Native.Nat.{ℕ, _+_, _≤_, _<_, min}
 use native.Mathlib.Omega.{arith}
-use mathlib.Core.Path.{_≡_, refl, sym, ap, ap₂, _∙_}
+use mathlib.Core.Path.{_≡_, refl, sym, ap, _∙_}
 use mathlib.Core.Bool.{Bool, true, false, cond, false≢true}
 use mathlib.Core.List.{List, [], _∷_}
-use mathlib.Core.Logic.{_⊎_, inl, inr, ⊎-elim}
+use mathlib.Core.Logic.{_⊎_, ⊎-elim}
 use lib.Dec.{eqb, ltb}
 use lib.ListN.{length}
 use borrow.Author.Tests.{ltb-true, lt-ltb, le-ltb, eqb-true, eq-eqb}
@@ -26,7 +26,9 @@ use Rattle.delivery.proofs.Register.{insideAt, outsideAll, allLines, al
 -- one side goes outside, and of a short section's notices at most one is split
 pub record Split (ss : List Section) (ns : List Notice) (near far inside outside : List ℕ) : Type 0 where
   pub one-section : (c : ℕ) → many (length ss) (λ (i : ℕ). eqb (sectionOf ss i .settlement) c and ltb 0 (entry near i) and ltb 0 (entry far i)) ≤ 1
-  pub one-side : (c : ℕ) → ((i : ℕ) → i < length ss → sectionOf ss i .settlement ≡ c → isLong (positionOf (sectionOf ss i)) ≡ true → entry far i ≡ 0) ⊎ ((i : ℕ) → i < length ss → sectionOf ss i .settlement ≡ c → isShort (positionOf (sectionOf ss i)) ≡ true → entry far i ≡ 0)
+  pub one-side : (c : ℕ)
+      → ((i : ℕ) → i < length ss → sectionOf ss i .settlement ≡ c → isLong (positionOf (sectionOf ss i)) ≡ true → entry far i ≡ 0)
+      ⊎ ((i : ℕ) → i < length ss → sectionOf ss i .settlement ≡ c → isShort (positionOf (sectionOf ss i)) ≡ true → entry far i ≡ 0)
   pub one-notice : (i : ℕ) → many (length ns) (λ (k : ℕ). eqb (noticeOf ns k .section) i and ltb 0 (entry inside k) and ltb 0 (entry outside k)) ≤ 1
   -- a notice is drawn inside only where its section is short and has lots inside, and so outside
   pub of-inside : (k : ℕ) → k < length ns → 0 < entry inside k → (isShort (positionOf (sectionOf ss (noticeOf ns k .section))) ≡ true) × (0 < entry near (noticeOf ns k .section))
@@ -60,6 +62,10 @@ above-and : (t : Bool) (x : ℕ) → ltb 0 (cond t x 0) ≡ (t and ltb 0 x)
 above-and true x = refl
 above-and false x = refl
 
+above-both : (t : Bool) (x y : ℕ) → ltb 0 (cond t x 0 + cond t y 0) ≡ (t and ltb 0 (x + y))
+above-both true x y = refl
+above-both false x y = refl
+
 above-read : (t : Bool) (x : ℕ) → 0 < cond t x 0 → (t ≡ true) × (0 < x)
 above-read true x h = (refl, h)
 above-read false x h = absurd (omega (arith, h))
@@ -71,15 +77,9 @@ one-above x = ⊎-elim (λ (h : 0 < x). ap one (lt-ltb 0 x h) ∙ omega (arith, 
 -- of two numbers: each of them, their sum, and both
 one-sum : (x y : ℕ) → one (ltb 0 x) + one (ltb 0 y) ≡ one (ltb 0 (x + y)) + one (ltb 0 x and ltb 0 y)
 one-sum x y =
-    ⊎-elim
-    (λ (h : 0 < x).
-    rw (lt-ltb 0 x h, lt-ltb 0 (x + y) (omega (arith, h))) refl)
-    (λ (h : x ≤ 0).
-    rw (le-ltb 0 x h) (omega (arith, ap (λ (n : ℕ). one (ltb 0 n)) (the-same h))))
+    ⊎-elim (λ (h : 0 < x). rw (lt-ltb 0 x h, lt-ltb 0 (x + y) (omega (arith, h))) refl)
+    (λ (h : x ≤ 0). let same : x + y ≡ y = omega (arith, h) in rw (le-ltb 0 x h, same) (omega arith))
     (below-or-not 0 x)
-  where
-    the-same : x ≤ 0 → x + y ≡ y
-    the-same h = omega (arith, h)
 
 module _ (n : ℕ) (s t : ℕ → Bool) where
   -- counts by tests that agree, and by a test that follows from another
@@ -95,6 +95,15 @@ module _ (n : ℕ) (s t : ℕ → Bool) where
 many-nowhere : (n : ℕ) (s : ℕ → Bool) → ((i : ℕ) → i < n → s i ≡ true → ⊥) → many n s ≡ 0
 unfolding many
 many-nowhere n s never = sum-nothing _+_ 0 naturals n _ (λ i h. one-nowhere (s i) (never i h))
+
+-- where a sum is above 0, one of what it sums is
+live-some : (n : ℕ) (f : ℕ → ℕ) → 0 < total (listed n f) → 0 < live n f
+unfolding many
+live-some n f h =
+    ⊎-elim (λ (k : 0 < live n f). k)
+    (λ (k : live n f ≤ 0).
+    absurd (omega (arith, h, sum-nothing _+_ 0 naturals n f (λ i l. omega (arith, one-above (f i), sum-empty n (λ (j : ℕ). one (ltb 0 (f j))) (omega (arith, k)) i l)))))
+    (below-or-not 0 (live n f))
 
 -- by classes
 many-classes : (n m : ℕ) (key : ℕ → ℕ) (s : ℕ → Bool) → ((i : ℕ) → i < n → key i < m) → total (listed m (λ (c : ℕ). many n (λ (i : ℕ). eqb (key i) c and s i))) ≡ many n s
@@ -116,7 +125,7 @@ module _ (n : ℕ) (key a b : ℕ → ℕ) where
   abbrev splitOf : ℕ → ℕ
   splitOf c = many n (λ (i : ℕ). eqb (key i) c and ltb 0 (a i) and ltb 0 (b i))
 
-  -- those inside and those outside are those with lots, and the split ones once more
+  -- those inside and those outside are those with lots, and the split ones once more; and so over all classes
   twice : live n a + live n b ≡ live n (λ (i : ℕ). a i + b i) + many n (λ (i : ℕ). ltb 0 (a i) and ltb 0 (b i))
   unfolding many
   twice =
@@ -136,14 +145,14 @@ module _ (n : ℕ) (key a b : ℕ → ℕ) where
         let last = both (ltb 0 (a i)) (ltb 0 (b i)) (first .1) in
         (eqb-true (key i) c (first .0), ltb-true 0 (a i) (last .0), ltb-true 0 (b i) (last .1))
 
-    -- the split ones of a class pass any test that follows, and there is none where that is absurd
+    -- the split ones of a class are no more than what passes a test that they pass; and none are split where that is absurd
     split-within : (t : ℕ → Bool) → ((i : ℕ) → i < n → key i ≡ c → 0 < a i → 0 < b i → t i ≡ true) → splitOf c ≤ many n t
     split-within t follows = many-within n _ t (λ i h e. let p = parts i e in follows i h (p .0) (p .1) (p .2))
 
     unsplit : ((i : ℕ) → i < n → key i ≡ c → 0 < a i → 0 < b i → ⊥) → splitOf c ≡ 0
     unsplit never = many-nowhere n _ (λ i h e. let p = parts i e in never i h (p .0) (p .1) (p .2))
 
--- a pass has fewer lines than buyers and notices, and where it has no line it has no lots
+-- a pass with lines has fewer of them than buyers and notices, and one with none has no lots
 module _ (ss : List Section) (ns : List Notice) (pass : Pass) (formed : Formed ss ns pass) where
   few-lines : length (linesOf ss ns pass) + one (ltb 0 (length (linesOf ss ns pass))) ≤ live (length ss) (entry (pass .buyers)) + live (length ns) (entry (pass .drawn))
   few-lines =
@@ -159,7 +168,10 @@ module _ (ss : List Section) (ns : List Notice) (pass : Pass) (formed : Formed s
     unfolding gathered
     no-drawn = sum-empty (length ns) (entry (pass .drawn)) (sym (formed .by-notice (λ (seller elevator : ℕ). true)) ∙ ap (lineLots (λ (l : Line). true)) (empty (linesOf ss ns pass) none))
 
-module _ (ss : List Section) (ns : List Notice) (near far inside outside : List ℕ) (codes : (i : ℕ) → i < length ss → sectionOf ss i .settlement < 64) (sections : (k : ℕ) → k < length ns → noticeOf ns k .section < length ss) (formed-inside : (c : ℕ) → c < 64 → Formed ss ns (insideAt ss ns near far inside outside c)) (formed-outside : Formed ss ns (outsideAll ss ns near far inside outside)) (split : Split ss ns near far inside outside) where
+module _ (ss : List Section) (ns : List Notice) (near far inside outside : List ℕ)
+    (codes : (i : ℕ) → i < length ss → sectionOf ss i .settlement < 64) (sections : (k : ℕ) → k < length ns → noticeOf ns k .section < length ss)
+    (formed-inside : (c : ℕ) → c < 64 → Formed ss ns (insideAt ss ns near far inside outside c)) (formed-outside : Formed ss ns (outsideAll ss ns near far inside outside))
+    (split : Split ss ns near far inside outside) where
   -- by section: its code, and what it buys inside and outside; by notice: its section's code
   abbrev long : ℕ → Bool
   long i = isLong (positionOf (sectionOf ss i))
@@ -230,20 +242,20 @@ module _ (ss : List Section) (ns : List Notice) (near far inside outside : List 
           omega (
             arith,
             many-within (length ns) (λ (k : ℕ). eqb (noticeOf ns k .section) i and splitNotice c k) _
-            (λ k h t.
-            let at = both (eqb (noticeOf ns k .section) i) (splitNotice c k) t in
-            together (at .0) (both (eqb (codeOfNotice k) c) (ltb 0 (entry inside k) and ltb 0 (entry outside k)) (at .1) .1)),
+                (λ k h t.
+                let at = both (eqb (noticeOf ns k .section) i) (splitNotice c k) t in
+                together (at .0) (both (eqb (codeOfNotice k) c) (ltb 0 (entry inside k) and ltb 0 (entry outside k)) (at .1) .1)),
             split .one-notice i,
           )
       go false e =
           omega (
             arith,
             many-nowhere (length ns) (λ (k : ℕ). eqb (noticeOf ns k .section) i and splitNotice c k)
-            (λ k h t.
-            let at = both (eqb (noticeOf ns k .section) i) (splitNotice c k) t in
-            let its = parts (length ns) codeOfNotice (entry inside) (entry outside) c k (at .1) in
-            let crossed = crosses c (noticeOf ns k .section) (its .0) (split .of-inside k h (its .1) .1) (split .of-outside k h (its .2) .1) in
-            false≢true (sym e ∙ ap (crossing c) (sym (eqb-true (noticeOf ns k .section) i (at .0))) ∙ crossed)),
+                (λ k h t.
+                let at = both (eqb (noticeOf ns k .section) i) (splitNotice c k) t in
+                let its = parts (length ns) codeOfNotice (entry inside) (entry outside) c k (at .1) in
+                let crossed = crosses c (noticeOf ns k .section) (its .0) (split .of-inside k h (its .1) .1) (split .of-outside k h (its .2) .1) in
+                false≢true (sym e ∙ ap (crossing c) (sym (eqb-true (noticeOf ns k .section) i (at .0))) ∙ crossed)),
           )
 
   notices-few : (c : ℕ) → noticesSplit c ≤ 1
@@ -270,7 +282,7 @@ module _ (ss : List Section) (ns : List Notice) (near far inside outside : List 
       omega (
         arith,
         unsplit (length ns) codeOfNotice (entry inside) (entry outside) c
-        (λ k h e m l. let out = split .of-outside k h l in omega (arith, out .1, no-short (noticeOf ns k .section) (sections k h) e (out .0))),
+            (λ k h e m l. let out = split .of-outside k h l in omega (arith, out .1, no-short (noticeOf ns k .section) (sections k h) e (out .0))),
         sections-few c,
       ))
       (split .one-side c)
@@ -282,9 +294,9 @@ module _ (ss : List Section) (ns : List Notice) (near far inside outside : List 
       omega (
         arith,
         unsplit (length ss) code (bought near) (bought far) c
-        (λ i l e m k. omega (arith, m, no-buyer ss ns pass (formed-inside c h) none i, buyer-inside c i l, chosen-yes (code i) c (bought near i) 0 e)),
+            (λ i l e m k. omega (arith, m, no-buyer ss ns pass (formed-inside c h) none i, buyer-inside c i l, chosen-yes (code i) c (bought near i) 0 e)),
         unsplit (length ns) codeOfNotice (entry inside) (entry outside) c
-        (λ i l e m k. omega (arith, m, no-drawn ss ns pass (formed-inside c h) none i l, drawn-inside c i l, chosen-yes (codeOfNotice i) c (entry inside i) 0 e)),
+            (λ i l e m k. omega (arith, m, no-drawn ss ns pass (formed-inside c h) none i l, drawn-inside c i l, chosen-yes (codeOfNotice i) c (entry inside i) 0 e)),
       )
 
   none-outside : outsideLines ≡ 0 → (c : ℕ) → sectionsSplit c + noticesSplit c ≡ 0
@@ -306,5 +318,63 @@ module _ (ss : List Section) (ns : List Notice) (near far inside outside : List 
       (λ (none : insideLines c ≤ 0). omega (arith, none-inside c h (omega (arith, none))))
       (below-or-not 0 (insideLines c)))
 
-  pub lines-few : 0 < length (allLines ss ns near far inside outside) → length (allLines ss ns near far inside outside) + 1 ≤ many (length ss) (λ (i : ℕ). isLong (positionOf (sectionOf ss i)) and ltb 0 (entry near i + entry far i)) + many (length ns) (λ (k : ℕ). ltb 0 (entry inside k + entry outside k))
-  lines-few some = ?
+  -- a pass's lines, by the sections that buy in it and the notices drawn for it
+  abbrev buyersInside : ℕ → ℕ
+  buyersInside = insideOf (length ss) code (bought near) (bought far)
+
+  abbrev noticesInside : ℕ → ℕ
+  noticesInside = insideOf (length ns) codeOfNotice (entry inside) (entry outside)
+
+  inside-few : (c : ℕ) → c < 64 → insideLines c + one (ltb 0 (insideLines c)) ≤ buyersInside c + noticesInside c
+  inside-few c h =
+      let pass = insideAt ss ns near far inside outside c in
+      omega (
+        arith,
+        few-lines ss ns pass (formed-inside c h),
+        many-same (length ss) _ _ (λ i l. ap (ltb 0) (buyer-inside c i l)),
+        many-same (length ns) _ _ (λ k l. ap (ltb 0) (drawn-inside c k l)),
+      )
+
+  outside-few : outsideLines + one (ltb 0 outsideLines) ≤ live (length ss) (bought far) + live (length ns) (entry outside)
+  outside-few =
+      omega (
+        arith,
+        few-lines ss ns (outsideAll ss ns near far inside outside) formed-outside,
+        many-same (length ss) _ _ (λ i l. ap (ltb 0) (buyer-outside i l)),
+        many-same (length ns) _ _ (λ k l. ap (ltb 0) (drawn-outside k)),
+      )
+
+  -- over all passes
+  all-few : length (allLines ss ns near far inside outside) + live 64 insideLines + one (ltb 0 outsideLines)
+      ≤ (many (length ss) (λ (i : ℕ). long i and ltb 0 (entry near i + entry far i)) + many (length ns) (λ (k : ℕ). ltb 0 (entry inside k + entry outside k)))
+      + total (listed 64 (λ (c : ℕ). sectionsSplit c + noticesSplit c))
+  unfolding many
+  all-few =
+      omega (
+        arith,
+        all-length ss ns near far inside outside,
+        sum-within 64 _ _ inside-few,
+        sum-both _+_ 0 naturals 64 insideLines (λ (c : ℕ). one (ltb 0 (insideLines c))),
+        sum-both _+_ 0 naturals 64 buyersInside noticesInside,
+        sum-both _+_ 0 naturals 64 sectionsSplit noticesSplit,
+        outside-few,
+        in-classes (length ss) code (bought near) (bought far) 64 codes,
+        in-classes (length ns) codeOfNotice (entry inside) (entry outside) 64 (λ k h. codes (noticeOf ns k .section) (sections k h)),
+        many-same (length ss) (λ (i : ℕ). ltb 0 (bought near i + bought far i)) _ (λ i h. above-both (long i) (entry near i) (entry far i)),
+      )
+
+  -- the lines are fewer than the long sections that deliver and the notices that are drawn: what is split makes no more lines than there are codes with lines
+  pub lines-few : 0 < length (allLines ss ns near far inside outside)
+      → length (allLines ss ns near far inside outside) + 1
+      ≤ many (length ss) (λ (i : ℕ). isLong (positionOf (sectionOf ss i)) and ltb 0 (entry near i + entry far i)) + many (length ns) (λ (k : ℕ). ltb 0 (entry inside k + entry outside k))
+  lines-few some =
+      ⊎-elim (λ (h : 0 < outsideLines). omega (arith, h, all-few, splits-few, one-above outsideLines))
+      (λ (h : outsideLines ≤ 0).
+      let none : outsideLines ≡ 0 = omega (arith, h) in
+      omega (
+        arith,
+        all-few,
+        sum-nothing _+_ 0 naturals 64 _ (λ c l. none-outside none c),
+        live-some 64 insideLines (omega (arith, some, none, all-length ss ns near far inside outside)),
+      ))
+      (below-or-not 0 outsideLines)
