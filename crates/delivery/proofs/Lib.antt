@@ -10,3 +10,4 @@ pub mod Formed
 pub mod Register
 pub mod Count
 pub mod Inside
+pub mod Delivery

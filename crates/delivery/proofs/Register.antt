@@ -48,7 +48,7 @@ total-within f g le (x ∷ xs) = omega (arith, le x, total-within f g le xs)
 -- General laws of what is read under a test
 
 -- of a sum
-under-both : (t : Bool) (x y : ℕ) → cond t x 0 + cond t y 0 ≡ cond t (x + y) 0
+pub under-both : (t : Bool) (x y : ℕ) → cond t x 0 + cond t y 0 ≡ cond t (x + y) 0
 under-both true x y = refl
 under-both false x y = refl
 

@@ -260,3 +260,10 @@ module _ (ss : List Section) (ns : List Notice) (codes : (i : ℕ) → i < lengt
   pub within-kept : Within ss (delivered ss ns)
   unfolding Within
   within-kept i = omega (arith, ap (λ (xs : List ℕ). entry xs i) kept-is, less-at left across i, within-left i)
+
+  -- a failing section delivers nothing
+  pub kept-failing : (i : ℕ) → i < length ss → fails ss ns i ≡ true → entry (delivered ss ns) i ≡ 0
+  unfolding failing
+  kept-failing i h e =
+      let all : entry failed i ≡ Expiry.size (sectionOf ss i) = listed-at (length ss) (λ (j : ℕ). cond (fails ss ns j) (Expiry.size (sectionOf ss j)) 0) i 0 h ∙ ap (λ (t : Bool). cond t (Expiry.size (sectionOf ss i)) 0) e in
+      omega (arith, all, ap (λ (xs : List ℕ). entry xs i) kept-is, less-at left across i, less-at sound inCodes i, less-at sizes failed i, sizes-at ss i)
