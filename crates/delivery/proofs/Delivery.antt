@@ -182,6 +182,10 @@ module _ (ss : List Section) (ns : List Notice) (codes : (i : ℕ) → i < lengt
   unfolding lines passes
   lines-are = refl
 
+  -- what is drawn of a notice, inside and outside
+  abbrev pub drawnAt : ℕ → ℕ
+  drawnAt k = entry inside k + entry beyond k
+
   -- all that is drawn of a section's notices
   drawn-for : (i : ℕ) → i < length ss → (t : Bool) → isShort (positionOf (sectionOf ss i)) ≡ t → drawnFor ss ns near far inside beyond i ≡ cond t (entry near i + entry far i) 0
   drawn-for i h t e =
@@ -201,10 +205,10 @@ module _ (ss : List Section) (ns : List Notice) (codes : (i : ℕ) → i < lengt
       ∙ near-far i
 
   -- what is drawn of the notices that pass a test is in the lines of their sections and elevators
-  pub noticed-lots : (test : ℕ → ℕ → Bool) → lineLots (λ (l : Line). test (l .seller) (l .elevator)) (lines ss ns) ≡ total (listed (length ns) (λ (k : ℕ). cond (test (noticeOf ns k .section) (noticeOf ns k .elevator)) (entry inside k + entry beyond k) 0))
+  pub noticed-lots : (test : ℕ → ℕ → Bool) → lineLots (λ (l : Line). test (l .seller) (l .elevator)) (lines ss ns) ≡ total (listed (length ns) (λ (k : ℕ). cond (test (noticeOf ns k .section) (noticeOf ns k .elevator)) (drawnAt k) 0))
   noticed-lots test = ap (λ (ls : List Line). lineLots (λ (l : Line). test (l .seller) (l .elevator)) ls) lines-are ∙ notice-lots ss ns near far inside beyond codes sections formed-inside formed-outside test
 
-  pub both-within : (k : ℕ) → entry inside k + entry beyond k ≤ natAbs (noticeOf ns k .lots .0)
+  pub both-within : (k : ℕ) → drawnAt k ≤ natAbs (noticeOf ns k .lots .0)
   both-within = drawn-within ss ns near kept (λ i. omega (arith, near-far i))
 
   -- the lines are fewer than the delivering long sections and the drawn notices together
