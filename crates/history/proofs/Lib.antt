@@ -1,2 +1,4 @@
 pub mod Written
+pub mod State
+pub mod Steps
 pub mod Run
