@@ -1,4 +1,5 @@
 pub mod Written
 pub mod State
 pub mod Steps
+pub mod Refused
 pub mod Run

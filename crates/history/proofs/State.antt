@@ -1,9 +1,9 @@
 -- Where a list of calls stands: what the calls so far have brought, and what the book that they left says of it.
 use Prim.Native.Nat.{ℕ}
-use mathlib.Core.Path.{_≡_, refl, sym, ap, _∙_}
+use mathlib.Core.Path.{_≡_, refl, ap, _∙_}
 use mathlib.Core.Bool.{true}
 use mathlib.Core.List.{List, [], _∷_, _++_, map, map-append, append-nil}
-use lib.IntN.{ℤ, pos, _+ℤ_, _-ℤ_, +ℤ-idr, zero-*ℤ}
+use lib.IntN.{ℤ, pos, _+ℤ_, _-ℤ_, +ℤ-idr}
 use Rattle.numbers.specs.Lists.{entryℤ}
 use Rattle.numbers.specs.Sums.{gathered, totalℤ}
 use Rattle.numbers.proofs.Sums.{wholes, total-append}

@@ -1,12 +1,11 @@
 -- What each accepted call does to where the list of calls stands.
-use Prim.Native.Nat.{ℕ, _≤_, _<_}
-use native.Mathlib.Omega.{arith}
+use Prim.Native.Nat.{ℕ, _≤_}
 use mathlib.Core.Path.{_≡_, refl, sym, ap, ap₂, subst, _∙_}
 use mathlib.Core.Bool.{Bool, true, false}
 use mathlib.Core.Logic.{⊎-elim}
-use mathlib.Core.List.{List, [], _∷_, _++_, append-nil}
+use mathlib.Core.List.{List, _++_, append-nil}
 use lib.Dec.{eqb}
-use lib.ListN.{length, take, drop, getD, length-map}
+use lib.ListN.{length, take, drop, length-map}
 use lib.Seq.{take-append-seam}
 use lib.IntN.{ℤ, pos, negℤ, _+ℤ_, _-ℤ_, +ℤ-idl, +ℤ-idr, +ℤ-negℤ-cancel, zero-*ℤ}
 use borrow.Author.Tests.{eqb-true}
@@ -14,16 +13,15 @@ use Rattle.numbers.specs.Lists.{entryℤ}
 use Rattle.numbers.specs.Sums.{gathered}
 use Rattle.numbers.proofs.Tests.{below-or-not}
 use Rattle.rules.specs.declared.book.Book.{Book}
-use Rattle.rules.specs.declared.units.Lots.{Lots}
 use Rattle.rules.specs.declared.units.Kopecks.{Kopecks}
 use Rattle.rules.specs.Units.{worth}
 use Rattle.rules.specs.Book.{good, termsGood, placesGood, sectionsGood, noticesGood, tailsBlank, sectionAt, positionOf, basisOf, heldSections, valueAt}
 use Rattle.rules.specs.Calls.{sectionNumber, newSection, withSection, tradeNumber, traded, sessionNumber, margins, sessionMargins, marginOf, afterSession, conditionNumber, afterCondition, noticeNumber, afterNotice}
 use Rattle.rules.specs.Expiry.Call.{afterExpiry}
-use Rattle.rules.specs.History.{Call, section, trade, session, condition, notice, expiry, Deal, Payment, Brought, sided, net, entered, broughtBy}
+use Rattle.rules.specs.History.{trade, session, Deal, sided, net, entered, broughtBy}
 use Rattle.book.proofs.Accepted as accepted
 use Rattle.book.proofs.Answers.{written}
-use Rattle.book.proofs.Good.{Good, facts}
+use Rattle.book.proofs.Good.{Good}
 use Rattle.book.proofs.Held.{held-length}
 use Rattle.book.proofs.Blank.{rest-read}
 use Rattle.book.proofs.Kept.Section.{section-kept}
@@ -33,9 +31,9 @@ use Rattle.book.proofs.Kept.Condition.{condition-kept}
 use Rattle.book.proofs.Kept.Notice.{notice-kept}
 use Rattle.book.proofs.Effects.Trade.{sideLots}
 use Rattle.book.proofs.Effects.Session.{session-basis, session-rest}
-use Rattle.book.proofs.Net.{Net, trade-net, session-net, section-net, condition-net, notice-net}
+use Rattle.book.proofs.Net.{trade-net, session-net, section-net, condition-net, notice-net}
 use Rattle.book.proofs.Telescope.{Telescoped, trade-step, session-step, section-step, condition-step, notice-step}
-use Rattle.history.proofs.State.{Past, after, owed, Reached, net-more, entered-more}
+use Rattle.history.proofs.State.{Past, after, Reached, net-more, entered-more}
 
 -- the lots of a trade on the side of section i, as the list of calls and as the book has them
 side-lots : (buyer seller lots i : ℕ) (v : Kopecks) → (buyer ≡ seller → ⊥) → sided i (record { buyer = buyer; seller = seller; lots = lots; entry = v }) ≡ sideLots buyer seller lots i .0
@@ -62,10 +60,10 @@ unfolding worth
 after-basis b price book i =
     ⊎-elim (session-basis b price book i)
     (λ (h : b .held ≤ i).
-      ap basisOf (session-rest b price book i h)
-      ∙ rest-read b book i h basisOf refl
-      ∙ sym (zero-*ℤ (valueAt b price .0))
-      ∙ ap (λ (z : ℤ). worth (record { 0 = z }) (valueAt b price) .0) (sym (rest-read b book i h positionOf refl)))
+    ap basisOf (session-rest b price book i h)
+    ∙ rest-read b book i h basisOf refl
+    ∙ sym (zero-*ℤ (valueAt b price .0))
+    ∙ ap (λ (z : ℤ). worth (record { 0 = z }) (valueAt b price) .0) (sym (rest-read b book i h positionOf refl)))
     (below-or-not i (b .held))
 
 -- the mark of an expiry is no part of the rules of the book
@@ -95,8 +93,8 @@ module _ (b : Book) (past : Past) (was : Reached b past) where
         book = trade-kept b buyer seller price lots e;
         nets = λ i. net-more (past .deals) d i ∙ ap (λ (z : ℤ). net (past .deals) i +ℤ z) (side i) ∙ trade-net b i (net (past .deals) i) (was .nets i) buyer seller price lots call;
         bases = λ i.
-          ap₂ _+ℤ_ (+ℤ-idr (past .paid i)) (entered-more (past .deals) d i ∙ ap (λ (z : ℤ). entered (past .deals) i +ℤ worth (record { 0 = z }) v .0) (side i))
-          ∙ trade-step b i (past .paid i) (entered (past .deals) i) (was .bases i) buyer seller price lots call;
+            ap₂ _+ℤ_ (+ℤ-idr (past .paid i)) (entered-more (past .deals) d i ∙ ap (λ (z : ℤ). entered (past .deals) i +ℤ worth (record { 0 = z }) v .0) (side i))
+            ∙ trade-step b i (past .paid i) (entered (past .deals) i) (was .bases i) buyer seller price lots call;
         settled = λ i. +ℤ-idr (past .paid i) ∙ was .settled i;
       }
 
@@ -116,25 +114,25 @@ module _ (b : Book) (past : Past) (was : Reached b past) where
 
       brought : after past (broughtBy b (session price list)) ≡ record { deals = past .deals; paid = paid; last = record { deals = past .deals; value = v } }
       brought = λ k.
-        record {
-          deals = append-nil (past .deals) k;
-          paid = λ i. past .paid i +ℤ (+ℤ-idr (entryℤ (take (b .held) (sessionMargins b price list)) i) ∙ ap (λ (ms : List ℤ). entryℤ ms i) (margins-written b price list e)) k;
-          last = record { deals = past .deals; value = v };
-        }
+          record {
+            deals = append-nil (past .deals) k;
+            paid = λ i. past .paid i +ℤ (+ℤ-idr (entryℤ (take (b .held) (sessionMargins b price list)) i) ∙ ap (λ (ms : List ℤ). entryℤ ms i) (margins-written b price list e)) k;
+            last = record { deals = past .deals; value = v };
+          }
 
       bases : (i : ℕ) → Telescoped (afterSession b price) i (paid i) (entered (past .deals) i)
       bases i = session-step b i (past .paid i) (entered (past .deals) i) (was .bases i) price book
 
       reached : Reached (afterSession b price) (record { deals = past .deals; paid = paid; last = record { deals = past .deals; value = v } })
       reached =
-        record {
-          book = session-kept b price (length list) e;
-          nets = λ i. session-net b i (net (past .deals) i) (was .nets i) price book;
-          bases = bases;
-          settled = λ i.
-            sym (+ℤ-negℤ-cancel (paid i) (entered (past .deals) i))
-            ∙ ap (λ (z : ℤ). z -ℤ entered (past .deals) i) (bases i ∙ after-basis b price book i ∙ ap (λ (z : ℤ). worth (record { 0 = z }) v .0) (sym (was .nets i)));
-        }
+          record {
+            book = session-kept b price (length list) e;
+            nets = λ i. session-net b i (net (past .deals) i) (was .nets i) price book;
+            bases = bases;
+            settled = λ i.
+                sym (+ℤ-negℤ-cancel (paid i) (entered (past .deals) i))
+                ∙ ap (λ (z : ℤ). z -ℤ entered (past .deals) i) (bases i ∙ after-basis b price book i ∙ ap (λ (z : ℤ). worth (record { 0 = z }) v .0) (sym (was .nets i)));
+          }
 
   pub condition-reached : (i : ℕ) (met : Bool) → conditionNumber b i ≡ 0 → Reached (afterCondition b i met) past
   condition-reached i met e =
