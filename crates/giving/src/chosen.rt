@@ -1,0 +1,95 @@
+// The lots of the sections that a step takes, and 0 for all others.
+ghost use mathlib.Core.Path.{_≡_};
+ghost use mathlib.Core.Bool.{true};
+ghost use Prim.Native.Nat.{ℕ};
+ghost use lib.ListN.{length};
+ghost use Rattle.numbers.specs.Lists.{entryℤ};
+ghost use Rattle.rules.specs.declared.book.Section.{Section};
+ghost use Rattle.rules.specs.Book.{good, heldSections, positionOf};
+ghost use Rattle.rules.specs.Expiry;
+use rules::book::Book;
+
+// Whether two numbers are on opposite sides.
+pub fn opposed(x: i64, y: i64) -> bool
+    ensures { λ r. ⌜ r ≡ Expiry.opposed x y ⌝ }
+{
+    if 0 < x {
+        return y < 0;
+    }
+    if x < 0 {
+        return 0 < y;
+    }
+    false
+}
+
+// Whether two numbers are on the same side.
+pub fn agreed(x: i64, y: i64) -> bool
+    ensures { λ r. ⌜ r ≡ Expiry.agreed x y ⌝ }
+{
+    if 0 < x {
+        return 0 < y;
+    }
+    if x < 0 {
+        return y < 0;
+    }
+    false
+}
+
+// Step 3: the sections opposite to d.
+pub fn opposed_to(b: Book, d: i64, lots: &[u64], out: &mut [u64])
+    requires { ⌜ (good b ≡ true) × (length (now lots) ≡ b .held) × (length (now out) ≡ b .held) ⌝ }
+    ensures { λ _. ⌜ now (out .exit) ≡ Expiry.chosen (heldSections b) (λ (s : Section). Expiry.opposed (positionOf s) d) (now (lots .entry)) ⌝ }
+{
+    let held = b.held;
+    let mut i = 0;
+    while i < held {
+        let s = b.sections[i];
+        let position = s.position.0;
+        if opposed(position, d) {
+            out[i] = lots[i];
+        } else {
+            out[i] = 0;
+        }
+        i += 1;
+    }
+}
+
+// Step 2: the sections opposite to their code's number.
+pub fn opposed_in_codes(b: Book, gaps: &[i64], lots: &[u64], out: &mut [u64])
+    requires { ⌜ (good b ≡ true) × (length (now lots) ≡ b .held) × (length (now out) ≡ b .held) × (length (now gaps) ≡ 64) ⌝ }
+    ensures { λ _. ⌜ now (out .exit) ≡ Expiry.chosen (heldSections b) (λ (s : Section). Expiry.opposed (positionOf s) (entryℤ (now (gaps .entry)) (s .settlement))) (now (lots .entry)) ⌝ }
+{
+    let held = b.held;
+    let mut i = 0;
+    while i < held {
+        let s = b.sections[i];
+        let position = s.position.0;
+        let c = s.settlement as usize;
+        if opposed(position, gaps[c]) {
+            out[i] = lots[i];
+        } else {
+            out[i] = 0;
+        }
+        i += 1;
+    }
+}
+
+// Step 4: the sections on the side of their code's net.
+pub fn agreed_in_codes(b: Book, nets: &[i64], lots: &[u64], out: &mut [u64])
+    requires { ⌜ (good b ≡ true) × (length (now lots) ≡ b .held) × (length (now out) ≡ b .held) × (length (now nets) ≡ 64) ⌝ }
+    ensures { λ _. ⌜ now (out .exit) ≡ Expiry.chosen (heldSections b) (λ (s : Section). Expiry.agreed (positionOf s) (entryℤ (now (nets .entry)) (s .settlement))) (now (lots .entry)) ⌝ }
+{
+    let held = b.held;
+    let mut i = 0;
+    while i < held {
+        let s = b.sections[i];
+        let position = s.position.0;
+        let c = s.settlement as usize;
+        if agreed(position, nets[c]) {
+            out[i] = lots[i];
+        } else {
+            out[i] = 0;
+        }
+        i += 1;
+    }
+}

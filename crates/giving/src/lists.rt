@@ -1,0 +1,52 @@
+// Lists of lots.
+ghost use mathlib.Core.Path.{_≡_};
+ghost use mathlib.Core.List.{map};
+ghost use Prim.Native.Nat.{ℕ, _≤_};
+ghost use lib.ListN.{length};
+ghost use lib.IntN.{natAbs};
+ghost use Rattle.numbers.specs.Lists.{entry};
+ghost use Rattle.numbers.specs.Lists as Lists;
+ghost use Rattle.numbers.specs.Sums.{total};
+use value::signed;
+
+// What is left of each entry when some of it is taken.
+pub fn less(lots: &mut [u64], taken: &[u64])
+    requires { ⌜ (length (now taken) ≡ length (now lots)) × ((i : ℕ) → entry (now taken) i ≤ entry (now lots) i) ⌝ }
+    ensures { λ _. ⌜ now (lots .exit) ≡ Lists.less (now (lots .entry)) (now (taken .entry)) ⌝ }
+{
+    let all = lots.len();
+    let mut i = 0;
+    while i < all {
+        lots[i] -= taken[i];
+        i += 1;
+    }
+}
+
+// The size of each number.
+pub fn magnitudes(numbers: &[i64], out: &mut [u64])
+    requires { ⌜ length (now out) ≡ length (now numbers) ⌝ }
+    ensures { λ _. ⌜ now (out .exit) ≡ map natAbs (now (numbers .entry)) ⌝ }
+{
+    let all = numbers.len();
+    let mut i = 0;
+    while i < all {
+        let z = numbers[i];
+        out[i] = signed::size(z);
+        i += 1;
+    }
+}
+
+// The sum of a list of at most 256 numbers that are not too large.
+pub fn sum(lots: &[u64]) -> u64
+    requires { ⌜ (length (now lots) ≤ 256) × ((i : ℕ) → entry (now lots) i ≤ 1_000_000_000) ⌝ }
+    ensures { λ r. ⌜ r ≡ total (now (lots .entry)) ⌝ }
+{
+    let all = lots.len();
+    let mut sum = 0;
+    let mut i = 0;
+    while i < all {
+        sum += lots[i];
+        i += 1;
+    }
+    sum
+}

@@ -1,0 +1,65 @@
+// Step 1: who fails.
+ghost use mathlib.Core.Path.{_≡_};
+ghost use mathlib.Core.Bool.{true};
+ghost use mathlib.Core.List.{map};
+ghost use Prim.Native.Nat.{_<_};
+ghost use lib.ListN.{length};
+ghost use Rattle.rules.specs.Book.{good, heldSections, filedNotices};
+ghost use Rattle.rules.specs.Expiry;
+ghost use Rattle.rules.specs.Expiry.Failing;
+use crate::notices;
+use rules::book::Book;
+use value::signed;
+
+// Whether section i fails.
+pub fn fails(b: Book, i: usize) -> bool
+    requires { ⌜ (good b ≡ true) × (i < b .held) ⌝ }
+    ensures { λ r. ⌜ r ≡ Failing.fails (heldSections b) (filedNotices b) i ⌝ }
+{
+    let s = b.sections[i];
+    if !s.met {
+        return true;
+    }
+    let position = s.position.0;
+    if 0 <= position {
+        return false;
+    }
+    if !s.seller {
+        return true;
+    }
+    notices::noticed(b, b.filed, i as u8) != signed::size(position)
+}
+
+// The size of each section's position.
+pub fn sizes(b: Book, lots: &mut [u64])
+    requires { ⌜ (good b ≡ true) × (length (now lots) ≡ b .held) ⌝ }
+    ensures { λ _. ⌜ now (lots .exit) ≡ map Expiry.size (heldSections b) ⌝ }
+{
+    let held = b.held;
+    let mut i = 0;
+    while i < held {
+        let s = b.sections[i];
+        let position = s.position.0;
+        lots[i] = signed::size(position);
+        i += 1;
+    }
+}
+
+// The lots of the failing sections, and 0 for the sound.
+pub fn failing(b: Book, lots: &mut [u64])
+    requires { ⌜ (good b ≡ true) × (length (now lots) ≡ b .held) ⌝ }
+    ensures { λ _. ⌜ now (lots .exit) ≡ Failing.failing (heldSections b) (filedNotices b) ⌝ }
+{
+    let held = b.held;
+    let mut i = 0;
+    while i < held {
+        let s = b.sections[i];
+        let position = s.position.0;
+        if fails(b, i) {
+            lots[i] = signed::size(position);
+        } else {
+            lots[i] = 0;
+        }
+        i += 1;
+    }
+}

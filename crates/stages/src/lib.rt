@@ -1,0 +1,4 @@
+// The two stages of a pass (step 6): pairs of buyers and elevators, then lines of pairs and notices.
+pub mod first;
+pub mod largest;
+pub mod second;
