@@ -3,13 +3,13 @@ use Prim.Native.Nat.{ℕ, zero, suc, _+_, _*_, _≤_, _<_, _^_, zero-le}
 use native.Mathlib.Nat.{zero-add, add-assoc, add-comm, not-suc-le-zero, le-of-suc-le-suc, mul-le-mul-left}
 use native.Mathlib.Omega.{arith}
 use mathlib.Core.Path.{_≡_, refl, sym, ap, _∙_}
-use mathlib.Core.List.{List, [], _∷_, _++_, map, map-append, map-map}
+use mathlib.Core.List.{List, [], _∷_, _++_, map, map-append, map-map, flatMap}
 use lib.ListN.{length, getD, set, drop, drop-of-length-le, length-map}
 use lib.IntN.{ℤ, pos, negℤ, natAbs, _+ℤ_, _-ℤ_, _*ℤ_, +ℤ-idl, +ℤ-idr, +ℤ-assoc, +ℤ-comm, negℤ-+ℤ, zero-*ℤ}
 use mir.Syntax.{w64}
 use mir.Val.{SFits, toZ, ofZ}
 use mir.Facts.{toZ-ofZ}
-use Rattle.numbers.specs.Sums.{gathered, totalℤ}
+use Rattle.numbers.specs.Sums.{gathered, total, totalℤ}
 use Rattle.numbers.proofs.Lists.{Has, from-here}
 use Rattle.numbers.proofs.Changed.{read-set, read-at}
 use Rattle.numbers.proofs.Whole.{plus, minus, ext, sum, sum-product, size, sfits-size}
@@ -59,6 +59,18 @@ pub total-kept : {A B : Type 0} (join : A → A → A) (none : A) (join′ : B �
 unfolding gathered
 total-kept join none join′ none′ h e k [] = sym e
 total-kept join none join′ none′ h e k (x ∷ xs) = ap (join′ (h x)) (total-kept join none join′ none′ h e k xs) ∙ sym (k x (gathered join none xs))
+
+-- sums of natural numbers that are read of the entries are ordered as what is read
+pub total-within : {A : Type 0} (f g : A → ℕ) → ((x : A) → f x ≤ g x) → (xs : List A) → total (map f xs) ≤ total (map g xs)
+unfolding gathered
+total-within f g le [] = omega arith
+total-within f g le (x ∷ xs) = omega (arith, le x, total-within f g le xs)
+
+-- a measure of lists that adds up over an append, of the lists that the entries of a list stand for, one after the other
+pub measured : {A B : Type 0} (measure : List B → ℕ) → measure [] ≡ 0 → ((xs ys : List B) → measure (xs ++ ys) ≡ measure xs + measure ys) → (g : A → List B) (xs : List A) → measure (flatMap g xs) ≡ total (map (λ (x : A). measure (g x)) xs)
+unfolding flatMap gathered
+measured measure none joined g [] = none
+measured measure none joined g (x ∷ xs) = joined (g x) (flatMap g xs) ∙ ap (λ (n : ℕ). measure (g x) + n) (measured measure none joined g xs)
 
 -- sums of whole numbers that f reads of the entries
 module _ {A : Type 0} (f : A → ℤ) where
