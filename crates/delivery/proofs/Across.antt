@@ -12,7 +12,7 @@ use Rattle.numbers.specs.Lists.{listed, entry, less}
 use Rattle.numbers.specs.Sums.{total}
 use Rattle.numbers.proofs.Sums.{naturals}
 use Rattle.numbers.proofs.Under.{under-same, under-none, under-two}
-use Rattle.numbers.proofs.Ranges.{listed-at, total-entries, sum-same, sum-both, sum-classes, sum-within, sum-nothing}
+use Rattle.numbers.proofs.Ranges.{listed-at, total-long, sum-same, sum-both, sum-classes, sum-within, sum-nothing}
 use Rattle.rules.specs.declared.book.Section.{Section}
 use Rattle.rules.specs.Book.{positionOf, sectionOf}
 use Rattle.rules.specs.Expiry.{opposed, chosen}
@@ -39,8 +39,7 @@ module _ (ss : List Section) (test : Section → Bool) (xs ys : List ℕ) (long 
   pub side-all : (side : ℤ → Bool) → ((i : ℕ) → i < length ss → side (positionOf (sectionOf ss i)) ≡ false → test (sectionOf ss i) ≡ false) → allOf ss side ys ≡ total ys
   side-all side same =
       sum-same _+_ 0 naturals (length ss) _ _ (λ i h. go i h (side (positionOf (sectionOf ss i))) refl)
-      ∙ ap (λ (n : ℕ). total (listed n (entry ys))) (sym long)
-      ∙ total-entries ys
+      ∙ total-long ys (length ss) long
     where
       go : (i : ℕ) → i < length ss → (t : Bool) → side (positionOf (sectionOf ss i)) ≡ t → cond (side (positionOf (sectionOf ss i))) (entry ys i) 0 ≡ entry ys i
       go i h true e = ap (λ (t : Bool). cond t (entry ys i) 0) e
@@ -63,7 +62,7 @@ module _ (ss : List Section) (codes : (i : ℕ) → i < length ss → sectionOf 
   at-least each =
       let a = givenAcross ss d left in
       let by-code : total (listed 64 (λ (c : ℕ). ofCode ss c a)) ≡ total a =
-      sum-classes _+_ 0 naturals (length ss) 64 (λ (i : ℕ). sectionOf ss i .settlement) (entry a) codes ∙ ap (λ (n : ℕ). total (listed n (entry a))) (sym (giving .long)) ∙ total-entries a in
+      sum-classes _+_ 0 naturals (length ss) 64 (λ (i : ℕ). sectionOf ss i .settlement) (entry a) codes ∙ total-long a (length ss) (giving .long) in
       omega (arith, sum-within 64 (λ (c : ℕ). sideOf ss mine c left) (λ (c : ℕ). ofCode ss c a + sideOf ss other c left) (λ c h. omega (arith, each c, net-cap c h, chosen-of-code ss facing mine left c (λ i k e. faced (positionOf (sectionOf ss i))))), sum-both _+_ 0 naturals 64 (λ (c : ℕ). ofCode ss c a) (λ (c : ℕ). sideOf ss other c left), by-code, side-classes ss mine left codes, side-classes ss other left codes)
 
   pub closed : total (givenAcross ss d left) ≡ natAbs d

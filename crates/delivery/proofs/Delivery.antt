@@ -12,7 +12,7 @@ use borrow.Author.Tests.{eqb-true, not-false, ltb-false}
 use Rattle.numbers.specs.Lists.{_and_, listed, entry, less}
 use Rattle.numbers.specs.Sums.{total, totalℤ, many}
 use Rattle.numbers.proofs.Sums.{naturals}
-use Rattle.numbers.proofs.Ranges.{listed-length, less-at, total-entries, sum-same, sum-both, sum-nothing, sum-under, sum-classes, sum-part, chosen-yes}
+use Rattle.numbers.proofs.Ranges.{listed-length, less-at, total-long, sum-same, sum-both, sum-nothing, sum-under, sum-classes, sum-part, chosen-yes}
 use Rattle.numbers.proofs.Counts.{many-same}
 use Rattle.numbers.proofs.Under.{under-same, under-none, under-sum, under-two, under-swapped}
 use Rattle.numbers.proofs.Tests.{or-right, below-or-not}
@@ -124,8 +124,7 @@ module _ (ss : List Section) (ns : List Notice) (codes : (i : ℕ) → i < lengt
   outside-drawn : total (outsidePass ss far beyond .drawn) ≡ allOf ss isShort far
   unfolding outsidePass drawn
   outside-drawn =
-      sym (total-entries beyond)
-      ∙ ap (λ (n : ℕ). total (listed n (entry beyond))) (listed-length (length ns) _)
+      sym (total-long beyond (length ns) (listed-length (length ns) _))
       ∙ sym (by-section (entry beyond))
       ∙ sum-same _+_ 0 naturals (length ss) _ _ (λ i h. beyond-of i h)
 

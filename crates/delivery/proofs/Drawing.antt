@@ -1,10 +1,9 @@
 -- What is drawn of the notices of a short section, laid end to end.
 use Prim.Native.Nat.{ℕ, zero, suc, _+_, _-_, min, max, _≤_, _<_}
-use native.Mathlib.Nat.{add-zero}
 use native.Mathlib.Omega.{arith}
 use mathlib.Core.Path.{_≡_, refl, sym, ap, subst, _∙_}
 use mathlib.Core.Bool.{Bool, true, false, cond}
-use mathlib.Core.List.{List, [], _∷_, _++_, map, map-append}
+use mathlib.Core.List.{List, [], _∷_, _++_}
 use mathlib.Core.Logic.{⊎-elim}
 use lib.Dec.{eqb, ltb}
 use lib.ListN.{length, take}
@@ -14,7 +13,7 @@ use borrow.Author.Tests.{ltb-true, eqb-true}
 use Rattle.numbers.specs.Lists.{_and_, counted, entry, listed}
 use Rattle.numbers.specs.Sums.{gathered, total, many}
 use Rattle.numbers.proofs.Tests.{and-left, and-right, below-or-not}
-use Rattle.numbers.proofs.Sums.{naturals, total-append}
+use Rattle.numbers.proofs.Sums.{naturals, total-last}
 use Rattle.numbers.proofs.Ranges.{listed-at, listed-past, listed-under, sum-more}
 use Rattle.numbers.proofs.Counts.{one, many-more, many-most}
 use Rattle.rules.specs.declared.book.Section.{Section}
@@ -42,11 +41,8 @@ counts i n = cond (eqb (n .section) i) (natAbs (n .lots .0)) 0
 
 -- one notice more
 noticed-more : (ns : List Notice) (n : Notice) (i : ℕ) → noticed (ns ++ (n ∷ [])) i ≡ noticed ns i + counts i n
-unfolding noticed gathered
-noticed-more ns n i =
-    ap total (map-append (counts i) ns (n ∷ []))
-    ∙ total-append _+_ 0 naturals (map (counts i) ns) (counts i n ∷ [])
-    ∙ ap (λ (x : ℕ). total (map (counts i) ns) + x) (add-zero (counts i n))
+unfolding noticed
+noticed-more ns n i = total-last _+_ 0 naturals (counts i) ns n
 
 module _ (ss : List Section) (ns : List Notice) where
   -- the section and the lots of a notice, and the lots of the section's earlier notices

@@ -22,7 +22,7 @@ use Rattle.rules.specs.declared.book.Section.{Section}
 use Rattle.rules.specs.Book.{sectionOf}
 use Rattle.rules.specs.Expiry.{takenFrom, taken, inOrder}
 
--- nothing is read of a section that gives nothing
+-- a section that gives nothing does not give in part
 not-in-part : (t u : Bool) → one (t and ltb 0 0 and u) ≡ 0
 not-in-part true u = refl
 not-in-part false u = refl

@@ -3,13 +3,13 @@ use Prim.Native.Nat.{ℕ, _+_, _≤_, _<_}
 use native.Mathlib.Omega.{arith}
 use mathlib.Core.Path.{_≡_, refl, sym, ap, ap₂, _∙_}
 use mathlib.Core.Bool.{Bool, true, false, cond, _||_, or-true}
-use mathlib.Core.List.{List, [], _∷_, _++_, map-append, flatMap}
+use mathlib.Core.List.{List, [], _∷_, _++_, flatMap}
 use lib.Dec.{eqb}
 use lib.ListN.{length, length-append}
 use lib.IntN.{ℤ}
 use Rattle.numbers.specs.Lists.{listed, entry}
 use Rattle.numbers.specs.Sums.{gathered, total}
-use Rattle.numbers.proofs.Sums.{naturals, total-append, total-map, total-within}
+use Rattle.numbers.proofs.Sums.{naturals, total-joined, total-map, total-within}
 use Rattle.numbers.proofs.Ranges.{listed-at, sum-same, sum-both, sum-one, sum-classes, measured-last}
 use Rattle.numbers.proofs.Under.{under-follows, under-sum, under-two, under-swapped, under-either}
 use Rattle.rules.specs.declared.book.Section.{Section}
@@ -41,7 +41,7 @@ module _ (a b : Line → Bool) (ls : List Line) where
       }
 
 lots-append : (test : Line → Bool) (xs ys : List Line) → lineLots test (xs ++ ys) ≡ lineLots test xs + lineLots test ys
-lots-append test xs ys = ap total (map-append _ xs ys) ∙ total-append _+_ 0 naturals _ _
+lots-append test xs ys = total-joined _+_ 0 naturals (λ (l : Line). cond (test l) (l .lots) 0) xs ys
 
 module _ (ss : List Section) (ns : List Notice) (near far inside outside : List ℕ) where
   -- the passes, and all their lines

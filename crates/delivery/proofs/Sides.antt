@@ -12,7 +12,7 @@ use Rattle.numbers.specs.Lists.{_and_, listed, entry, less}
 use Rattle.numbers.specs.Sums.{total}
 use Rattle.numbers.proofs.Sums.{naturals, wholes}
 use Rattle.numbers.proofs.Under.{under-within, under-sum, under-two}
-use Rattle.numbers.proofs.Ranges.{listed-under, less-at, sum-same, sum-both, sum-classes, sum-within, sum-difference, total-entries}
+use Rattle.numbers.proofs.Ranges.{listed-under, less-at, sum-same, sum-both, sum-classes, sum-within, sum-difference, total-long}
 use Rattle.rules.specs.declared.book.Section.{Section}
 use Rattle.rules.specs.Book.{positionOf, sectionOf}
 use Rattle.rules.specs.Expiry.{size, isLong, isShort, onSideOf, netOfCode, chosen}
@@ -43,7 +43,7 @@ module _ (ss : List Section) where
   -- some of them are at most all
   pub lots-most : (test : Section → Bool) (xs : List ℕ) → length xs ≡ length ss → lotsOf test xs ≤ total xs
   lots-most test xs long =
-      subst (λ (n : ℕ). lotsOf test xs ≤ n) (ap (λ (n : ℕ). total (listed n (entry xs))) (sym long) ∙ total-entries xs) (sum-within (length ss) _ _ (λ i h. under-within (test (sectionOf ss i)) (entry xs i)))
+      subst (λ (n : ℕ). lotsOf test xs ≤ n) (total-long xs (length ss) long) (sum-within (length ss) _ _ (λ i h. under-within (test (sectionOf ss i)) (entry xs i)))
 
   -- a side, code by code
   pub side-classes : (side : ℤ → Bool) (xs : List ℕ) → ((i : ℕ) → i < length ss → sectionOf ss i .settlement < 64) → total (listed 64 (λ (c : ℕ). sideOf side c xs)) ≡ allOf side xs

@@ -3,22 +3,21 @@ use Prim.Native.Nat.{ℕ, _+_, _-_, _≤_, _<_}
 use native.Mathlib.Omega.{arith}
 use mathlib.Core.Path.{_≡_, refl, sym, ap, ap₂, subst, _∙_}
 use mathlib.Core.Bool.{Bool, true, false, cond, false≢true, and-true, and-false, or-false}
-use mathlib.Core.List.{List, map, map-map}
+use mathlib.Core.List.{List, [], map, map-map}
 use mathlib.Core.Logic.{⊎-elim}
 use lib.Dec.{ltb}
-use lib.ListN.{length, length-map}
+use lib.ListN.{length, List·getD-map}
 use lib.IntN.{ℤ, pos, negsuc, natAbs, _+ℤ_, _-ℤ_}
 use borrow.Author.Tests.{lt-ltb, le-ltb, ltb-true, ltb-false}
 use Rattle.numbers.specs.Lists.{counted, listed, entry, entryℤ, less}
 use Rattle.numbers.specs.Sums.{total, totalℤ}
 use Rattle.numbers.proofs.Whole.{plus, minus, ext, sum, difference, difference-size, difference-above, difference-below}
 use Rattle.numbers.proofs.Sums.{naturals, wholes}
-use Rattle.numbers.proofs.Changed.{read-at}
-use Rattle.numbers.proofs.Ranges.{listed-at, listed-entries, listed-under, less-at, getD-past, sum-same, sum-both, sum-difference}
+use Rattle.numbers.proofs.Ranges.{listed-at, listed-entries, listed-under, less-at, sum-same, sum-both, sum-difference}
 use Rattle.numbers.proofs.Tests.{below-or-not}
 use Rattle.rules.specs.declared.book.Section.{Section}
 use Rattle.rules.specs.declared.book.Notice.{Notice}
-use Rattle.rules.specs.Book.{positionOf, sectionOf}
+use Rattle.rules.specs.Book.{positionOf, sectionOf, sectionOfNoughts}
 use Rattle.rules.specs.Expiry.{isLong, isShort, opposed, onSideOf, netOfCode, chosen}
 use Rattle.rules.specs.Expiry
 use Rattle.rules.specs.Expiry.Failing.{fails, failing}
@@ -55,10 +54,7 @@ faces-short p d e = simp (e, short-not-long d e, and-true, and-false, or-false)
 
 -- a section's lots are its position's size
 sizes-at : (ss : List Section) (i : ℕ) → entry (map Expiry.size ss) i ≡ Expiry.size (sectionOf ss i)
-sizes-at ss i =
-    ⊎-elim (λ (h : i < length ss). read-at Expiry.size ss i _ 0 h)
-    (λ (h : length ss ≤ i). getD-past (map Expiry.size ss) i 0 (omega (arith, length-map ss Expiry.size, h)) ∙ sym (ap Expiry.size (getD-past ss i _ h)))
-    (below-or-not i (length ss))
+sizes-at ss i = List·getD-map Expiry.size ss i (sectionOfNoughts [])
 
 -- the positions' sum is the long lots less the short ones
 positions-sides : (ss : List Section) → totalℤ (map positionOf ss) ≡ pos (allOf ss isLong (map Expiry.size ss)) -ℤ pos (allOf ss isShort (map Expiry.size ss))

@@ -84,7 +84,7 @@ pub every-has : {A : Type 0} (p : A → Bool) {xs : List A} {i : ℕ} {x : A} �
 every-has p {xs} {i} here e = rw (here .entry) at (every-at p xs i (here .other) e (here .below))
 
 -- where none passes a test, none of them does
-pub none-at : {A : Type 0} (p : A → Bool) (xs : List A) (i : ℕ) (d : A) → some p xs ≡ false → i < length xs → p (getD xs i d) ≡ false
+none-at : {A : Type 0} (p : A → Bool) (xs : List A) (i : ℕ) (d : A) → some p xs ≡ false → i < length xs → p (getD xs i d) ≡ false
 unfolding some
 none-at p [] i d e h = absurd (not-suc-le-zero h)
 none-at p (x ∷ xs) zero d e h = or-left (p x) (some p xs) e

@@ -4,7 +4,7 @@ use native.Mathlib.Nat.{add-zero, zero-add, not-suc-le-zero, le-of-suc-le-suc}
 use native.Mathlib.Omega.{arith}
 use mathlib.Core.Path.{_≡_, refl, sym, ap, ap₂, _∙_}
 use mathlib.Core.Bool.{Bool, true, false, cond}
-use mathlib.Core.List.{List, [], _∷_, _++_, map, map-append, map-map, flatMap}
+use mathlib.Core.List.{List, [], _∷_, _++_, map, map-map, flatMap}
 use mathlib.Core.Logic.{⊎-elim}
 use lib.Dec.{eqb}
 use lib.ListN.{length, getD, set, length-map, List·getD-eq-default}
@@ -13,7 +13,7 @@ use borrow.Author.Tests.{eq-eqb, ne-eqb}
 use Rattle.numbers.specs.Lists.{counted, listed, entry, less}
 use lib.IntN.{pos, _+ℤ_, _-ℤ_}
 use Rattle.numbers.specs.Sums.{gathered, total, totalℤ}
-use Rattle.numbers.proofs.Sums.{Addition, naturals, total-append, total-map, total-kept, total-difference, measured}
+use Rattle.numbers.proofs.Sums.{Addition, naturals, total-last, total-map, total-kept, total-difference, measured}
 use Rattle.numbers.proofs.Changed.{read-at}
 use Rattle.numbers.proofs.Tests.{same-or-not, below-or-not}
 use Rattle.numbers.proofs.Under.{under-within}
@@ -99,12 +99,10 @@ module _ {A : Type 0} (i j : ℕ) (x y : A) where
 module _ {A : Type 0} (join : A → A → A) (none : A) (add : Addition join none) where
   -- one number more
   pub sum-more : (n : ℕ) (f : ℕ → A) → gathered join none (listed (suc n) f) ≡ join (gathered join none (listed n f)) (f n)
-  unfolding gathered
   sum-more n f =
       ap (λ (ms : List ℕ). gathered join none (map f ms)) (counted-more 0 n)
-      ∙ ap (gathered join none) (map-append f (counted 0 n) ((0 + n) ∷ []))
-      ∙ total-append join none add (map f (counted 0 n)) (f (0 + n) ∷ [])
-      ∙ ap (join (gathered join none (listed n f))) (add .comm (f (0 + n)) none ∙ add .unit (f (0 + n)) ∙ ap f (zero-add n))
+      ∙ total-last join none add f (counted 0 n) (0 + n)
+      ∙ ap (λ (m : ℕ). join (gathered join none (listed n f)) (f m)) (zero-add n)
 
   -- equal at each number
   pub sum-same : (n : ℕ) (f g : ℕ → A) → ((i : ℕ) → i < n → f i ≡ g i) → gathered join none (listed n f) ≡ gathered join none (listed n g)
@@ -204,6 +202,10 @@ sum-part (suc n) f j h =
 pub total-entries : (xs : List ℕ) → total (listed (length xs) (entry xs)) ≡ total xs
 total-entries xs = ap total (listed-entries xs 0)
 
+-- of a list whose length is known
+pub total-long : (xs : List ℕ) (n : ℕ) → length xs ≡ n → total (listed n (entry xs)) ≡ total xs
+total-long xs n long = ap (λ (m : ℕ). total (listed m (entry xs))) (sym long) ∙ total-entries xs
+
 -- where a sum is 0, each of what it sums is
 pub sum-empty : (n : ℕ) (f : ℕ → ℕ) → total (listed n f) ≡ 0 → (i : ℕ) → i < n → f i ≡ 0
 sum-empty n f e i h = omega (arith, e, sum-part n f i h)
@@ -224,13 +226,11 @@ module _ {A : Type 0} (f : A → ℕ) (d : A) (xs : List A) where
 -- a measure of lists that adds up over an append, of the lists that n entries and one more stand for
 pub measured-last : {A B : Type 0} (measure : List B → ℕ) → measure [] ≡ 0 → ((xs ys : List B) → measure (xs ++ ys) ≡ measure xs + measure ys) → (g : A → List B) (n : ℕ) (f : ℕ → A) (y : A)
     → measure (flatMap g (listed n f ++ (y ∷ []))) ≡ total (listed n (λ (i : ℕ). measure (g (f i)))) + measure (g y)
-unfolding gathered
 measured-last {A = A} measure none joined g n f y =
     let m : A → ℕ = λ (x : A). measure (g x) in
     measured measure none joined g (listed n f ++ (y ∷ []))
-    ∙ ap total (map-append m (listed n f) (y ∷ []))
-    ∙ total-append _+_ 0 naturals (map m (listed n f)) (m y ∷ [])
-    ∙ ap₂ _+_ (ap total (map-map m f (counted 0 n))) (add-zero (m y))
+    ∙ total-last _+_ 0 naturals m (listed n f) y
+    ∙ ap (λ (xs : List ℕ). total xs + m y) (map-map m f (counted 0 n))
 
 -- a sum of differences of natural numbers
 pub sum-difference : (n : ℕ) (f g : ℕ → ℕ) → totalℤ (listed n (λ (i : ℕ). pos (f i) -ℤ pos (g i))) ≡ pos (total (listed n f)) -ℤ pos (total (listed n g))

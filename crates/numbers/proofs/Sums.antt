@@ -37,6 +37,14 @@ module _ {A : Type 0} (join : A → A → A) (none : A) (add : Addition join non
   total-append [] ys = sym (add .unit _)
   total-append (x ∷ xs) ys = ap (join x) (total-append xs ys) ∙ sym (add .assoc _ _ _)
 
+  -- of what f reads of an append, and of one entry more
+  pub total-joined : {B : Type 0} (f : B → A) (xs ys : List B) → gathered join none (map f (xs ++ ys)) ≡ join (gathered join none (map f xs)) (gathered join none (map f ys))
+  total-joined f xs ys = ap (gathered join none) (map-append f xs ys) ∙ total-append (map f xs) (map f ys)
+
+  pub total-last : {B : Type 0} (f : B → A) (xs : List B) (y : B) → gathered join none (map f (xs ++ (y ∷ []))) ≡ join (gathered join none (map f xs)) (f y)
+  unfolding gathered
+  total-last f xs y = total-joined f xs (y ∷ []) ∙ ap (join (gathered join none (map f xs))) (add .comm (f y) none ∙ add .unit (f y))
+
   -- of a map that adds two readings of each entry
   pub total-map : {B : Type 0} (f g : B → A) (xs : List B) → gathered join none (map (λ (x : B). join (f x) (g x)) xs) ≡ join (gathered join none (map f xs)) (gathered join none (map g xs))
   unfolding gathered
@@ -85,8 +93,7 @@ module _ {A : Type 0} (f : A → ℤ) where
 
   -- one entry more, of which 0 is read
   pub total-more : (xs : List A) (y : A) → f y ≡ pos 0 → totalℤ (map f (xs ++ (y ∷ []))) ≡ totalℤ (map f xs)
-  unfolding gathered
-  total-more xs y e = rw (map-append f xs (y ∷ []), total-append _+ℤ_ (pos 0) wholes (map f xs) (f y ∷ []), e) (+ℤ-idr _)
+  total-more xs y e = total-last _+ℤ_ (pos 0) wholes f xs y ∙ ap (λ (z : ℤ). totalℤ (map f xs) +ℤ z) e ∙ +ℤ-idr _
 
   -- each is multiplied
   pub total-product : (v : ℕ) (xs : List A) → totalℤ (map (λ (x : A). f x *ℤ pos v) xs) ≡ totalℤ (map f xs) *ℤ pos v
