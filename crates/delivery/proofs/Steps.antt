@@ -3,17 +3,17 @@ use Prim.Native.Nat.{ℕ, _+_, _-_, _≤_, _<_}
 use native.Mathlib.Omega.{arith}
 use mathlib.Core.Path.{_≡_, refl, sym, ap, ap₂, subst, _∙_}
 use mathlib.Core.Bool.{Bool, true, false, cond, false≢true, and-true, and-false, or-false}
-use mathlib.Core.List.{List, [], map, map-map}
+use mathlib.Core.List.{List, [], map}
 use mathlib.Core.Logic.{⊎-elim}
 use lib.Dec.{ltb}
 use lib.ListN.{length, List·getD-map}
 use lib.IntN.{ℤ, pos, negsuc, natAbs, _+ℤ_, _-ℤ_}
 use borrow.Author.Tests.{lt-ltb, le-ltb, ltb-true, ltb-false}
-use Rattle.numbers.specs.Lists.{counted, listed, entry, entryℤ, less}
+use Rattle.numbers.specs.Lists.{listed, entry, entryℤ, less}
 use Rattle.numbers.specs.Sums.{total, totalℤ}
 use Rattle.numbers.proofs.Whole.{plus, minus, ext, sum, difference, difference-size, difference-above, difference-below}
 use Rattle.numbers.proofs.Sums.{naturals, wholes}
-use Rattle.numbers.proofs.Ranges.{listed-at, listed-entries, listed-under, less-at, sum-same, sum-both, sum-difference}
+use Rattle.numbers.proofs.Ranges.{listed-at, listed-read, listed-under, less-at, sum-same, sum-both, sum-difference}
 use Rattle.numbers.proofs.Tests.{below-or-not}
 use Rattle.rules.specs.declared.book.Section.{Section}
 use Rattle.rules.specs.declared.book.Notice.{Notice}
@@ -59,8 +59,7 @@ sizes-at ss i = List·getD-map Expiry.size ss i (sectionOfNoughts [])
 -- the positions' sum is the long lots less the short ones
 positions-sides : (ss : List Section) → totalℤ (map positionOf ss) ≡ pos (allOf ss isLong (map Expiry.size ss)) -ℤ pos (allOf ss isShort (map Expiry.size ss))
 positions-sides ss =
-    ap (λ (ts : List Section). totalℤ (map positionOf ts)) (sym (listed-entries ss _))
-    ∙ ap totalℤ (map-map positionOf (sectionOf ss) (counted 0 (length ss)))
+    sym (ap totalℤ (listed-read positionOf ss (sectionOfNoughts [])))
     ∙ sum-same _+ℤ_ (pos 0) wholes (length ss) _ _ (λ i h. whole (positionOf (sectionOf ss i)) ∙ on-side (positionOf (sectionOf ss i)) (Expiry.size (sectionOf ss i)) (omega arith) ∙ ap (λ (x : ℕ). pos (cond (isLong (positionOf (sectionOf ss i))) x 0) -ℤ pos (cond (isShort (positionOf (sectionOf ss i))) x 0)) (sym (sizes-at ss i)))
     ∙ sum-difference (length ss) _ _
   where

@@ -14,7 +14,7 @@ use Rattle.numbers.specs.Sums.{total}
 use Rattle.numbers.proofs.Sums.{naturals}
 use Rattle.numbers.proofs.Changed.{read-at}
 use Rattle.numbers.proofs.Lists.{over-at}
-use Rattle.numbers.proofs.Ranges.{less-at, Left, left-all, left-less, sum-same, total-read}
+use Rattle.numbers.proofs.Ranges.{listed-read, less-at, Left, left-all, left-less, sum-same}
 use Rattle.rules.specs.declared.book.Book.{Book}
 use Rattle.rules.specs.declared.book.Section.{Section}
 use Rattle.rules.specs.declared.book.Notice.{Notice}
@@ -91,7 +91,7 @@ module _ (b : Book) (ls : Lists) (accepted : first (expiryRefusals b ls) ≡ 0) 
       ap₂ (λ (n : ℕ) (w : Lists). total (listed n (lots w))) written-lines written-lists
       ∙ sum-same _+_ 0 naturals (length formed) _ _
       (λ k h. rw (at (λ l. l .buyer) (ls .buyers) k h, at (λ l. l .elevator) (ls .elevators) k h, at (λ l. l .seller) (ls .sellers) k h, at (λ l. l .lots) (ls .lots) k h))
-      ∙ total-read (λ (l : Line). cond (test (l .buyer) (l .elevator) (l .seller)) (l .lots) 0) blank formed
+      ∙ ap total (listed-read (λ (l : Line). cond (test (l .buyer) (l .elevator) (l .seller)) (l .lots) 0) formed blank)
 
   -- a section's lots in the register are those of the lines formed that name it
   pub written-section : (i : ℕ) → registerLots written i ≡ lineLots (λ (l : Line). eqb (l .buyer) i || eqb (l .seller) i) formed

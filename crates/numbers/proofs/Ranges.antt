@@ -51,6 +51,10 @@ unfolding counted
 listed-entries [] d = refl
 listed-entries {A = A} (x ∷ xs) d = ap (λ (ys : List A). x ∷ ys) (counted-shift (λ (i : ℕ). getD (x ∷ xs) i d) 0 (length xs) ∙ listed-entries xs d)
 
+-- and what is read of them
+pub listed-read : {A B : Type 0} (f : A → B) (xs : List A) (d : A) → listed (length xs) (λ (i : ℕ). f (getD xs i d)) ≡ map f xs
+listed-read f xs d = sym (map-map f (λ (i : ℕ). getD xs i d) (counted 0 (length xs))) ∙ ap (map f) (listed-entries xs d)
+
 module _ {A : Type 0} (n : ℕ) (f : ℕ → A) where
   pub listed-length : length (listed n f) ≡ n
   listed-length = length-map (counted 0 n) f ∙ counted-length 0 n
@@ -210,18 +214,15 @@ total-long xs n long = ap (λ (m : ℕ). total (listed m (entry xs))) (sym long)
 pub sum-empty : (n : ℕ) (f : ℕ → ℕ) → total (listed n f) ≡ 0 → (i : ℕ) → i < n → f i ≡ 0
 sum-empty n f e i h = omega (arith, e, sum-part n f i h)
 
--- what is read of the entries of a list, by number
+-- sums of what is read of the entries of a list
 module _ {A : Type 0} (f : A → ℕ) (d : A) (xs : List A) where
-  pub total-read : total (listed (length xs) (λ (i : ℕ). f (getD xs i d))) ≡ total (map f xs)
-  total-read = ap total (sym (map-map f (λ (i : ℕ). getD xs i d) (counted 0 (length xs))) ∙ ap (map f) (listed-entries xs d))
-
   -- what is read of one entry is at most the sum
   pub total-part : (i : ℕ) → i < length xs → f (getD xs i d) ≤ total (map f xs)
-  total-part i h = omega (arith, total-read, sum-part (length xs) (λ (j : ℕ). f (getD xs j d)) i h)
+  total-part i h = omega (arith, ap total (listed-read f xs d), sum-part (length xs) (λ (j : ℕ). f (getD xs j d)) i h)
 
   -- where nothing is read of any, the sum is 0
   pub total-nothing : ((i : ℕ) → i < length xs → f (getD xs i d) ≡ 0) → total (map f xs) ≡ 0
-  total-nothing none = sym total-read ∙ sum-nothing _+_ 0 naturals (length xs) _ none
+  total-nothing none = sym (ap total (listed-read f xs d)) ∙ sum-nothing _+_ 0 naturals (length xs) _ none
 
 -- a measure of lists that adds up over an append, of the lists that n entries and one more stand for
 pub measured-last : {A B : Type 0} (measure : List B → ℕ) → measure [] ≡ 0 → ((xs ys : List B) → measure (xs ++ ys) ≡ measure xs + measure ys) → (g : A → List B) (n : ℕ) (f : ℕ → A) (y : A)
