@@ -8,12 +8,12 @@ use mathlib.Core.Logic.{inl, ⊎-elim}
 use lib.Dec.{eqb, ltb}
 use lib.ListN.{length}
 use lib.IntN.{ℤ, pos, negsuc, natAbs}
-use borrow.Author.Tests.{eqb-true, not-false, ltb-false}
+use borrow.Author.Tests.{eqb-true, not-false, ltb-true, ltb-false}
 use Rattle.numbers.specs.Lists.{_and_, listed, entry, less}
 use Rattle.numbers.specs.Sums.{total, totalℤ, many}
 use Rattle.numbers.proofs.Sums.{naturals}
 use Rattle.numbers.proofs.Ranges.{listed-length, less-at, total-long, sum-same, sum-both, sum-nothing, sum-under, sum-classes, sum-part, chosen-yes}
-use Rattle.numbers.proofs.Counts.{many-same}
+use Rattle.numbers.proofs.Counts.{many-same, many-most, many-some, many-fewer}
 use Rattle.numbers.proofs.Under.{under-same, under-none, under-sum, under-two, under-swapped}
 use Rattle.numbers.proofs.Tests.{or-right, below-or-not}
 use Rattle.rules.specs.declared.book.Section.{Section}
@@ -26,7 +26,7 @@ use Rattle.rules.specs.Expiry.Drawing.{drawn}
 use Rattle.rules.specs.Expiry.Passes.{Line, insidePass, outsidePass}
 use Rattle.rules.specs.Expiry.Call.{delivered, passes, lines}
 use Rattle.delivery.proofs.Sides.{sideOf, allOf, Within}
-use Rattle.delivery.proofs.Steps.{kept-even, within-kept, kept-failing, long-not-short}
+use Rattle.delivery.proofs.Steps.{kept-even, within-kept, kept-failing, long-not-short, short-not-long}
 use Rattle.delivery.proofs.Inside.{far-within, inside-even, outside-even, one-stays, one-split-section}
 use Rattle.delivery.proofs.Drawing.{drawn-section, drawn-ignored, drawn-within, one-split}
 use Rattle.delivery.proofs.StageTwo.{lineLots}
@@ -211,3 +211,26 @@ module _ (ss : List Section) (ns : List Notice) (codes : (i : ℕ) → i < lengt
     where
       delivering : many (length ss) (λ (i : ℕ). isLong (positionOf (sectionOf ss i)) and ltb 0 (entry near i + entry far i)) ≡ many (length ss) (λ (i : ℕ). isLong (positionOf (sectionOf ss i)) and ltb 0 (entry kept i))
       delivering = many-same (length ss) _ _ (λ i h. ap (λ (n : ℕ). isLong (positionOf (sectionOf ss i)) && ltb 0 n) (near-far i))
+
+  -- where a notice is drawn some section is short, so not all are long
+  some-short : (k : ℕ) → k < length ns → 0 < drawnAt k → many (length ss) (λ (i : ℕ). isLong (positionOf (sectionOf ss i)) and ltb 0 (entry (delivered ss ns) i)) + 1 ≤ length ss
+  some-short k h some =
+      let short : isShort (positionOf (sectionOf ss (noticeOf ns k .section))) ≡ true =
+      ⊎-elim (λ (l : 0 < entry inside k). of-short [] near k h l) (λ (l : entry inside k ≤ 0). of-short near kept k h (omega (arith, some, l))) (below-or-not 0 (entry inside k)) in
+      many-fewer (length ss) _ (noticeOf ns k .section) (sections k h) (ap (λ (t : Bool). t && ltb 0 (entry kept (noticeOf ns k .section))) (short-not-long (positionOf (sectionOf ss (noticeOf ns k .section))) short))
+
+  -- so the register has room for every line
+  pub lines-most : length ss ≤ 128 → length ns ≤ 256 → length (lines ss ns) ≤ 382
+  lines-most few-sections few-notices = ⊎-elim some-lines (λ (h : length (lines ss ns) ≤ 0). omega (arith, h)) (below-or-not 0 (length (lines ss ns)))
+    where
+      drawing : ℕ
+      drawing = many (length ns) (λ (k : ℕ). ltb 0 (drawnAt k))
+
+      some-lines : 0 < length (lines ss ns) → length (lines ss ns) ≤ 382
+      some-lines more =
+          ⊎-elim
+          (λ (h : 0 < drawing).
+          let it = many-some (length ns) (λ (k : ℕ). ltb 0 (drawnAt k)) h in
+          omega (arith, lines-below more, some-short (it .0) (it .1) (ltb-true 0 (drawnAt (it .0)) (it .2)), many-most (length ns) (λ (k : ℕ). ltb 0 (drawnAt k)), few-sections, few-notices))
+          (λ (h : drawing ≤ 0). omega (arith, h, lines-below more, many-most (length ss) (λ (i : ℕ). isLong (positionOf (sectionOf ss i)) and ltb 0 (entry (delivered ss ns) i)), few-sections))
+          (below-or-not 0 drawing)

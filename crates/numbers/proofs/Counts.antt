@@ -1,8 +1,9 @@
 -- How many of the numbers below n pass a test, and at how many of them more than 0 is read.
 use Prim.Native.Nat.{ℕ, zero, suc, _+_, _-_, _≤_, _<_, min}
+use native.Mathlib.Nat.{not-suc-le-zero}
 use native.Mathlib.Omega.{arith}
 use mathlib.Core.Path.{_≡_, refl, sym, ap, _∙_}
-use mathlib.Core.Bool.{Bool, true, cond}
+use mathlib.Core.Bool.{Bool, true, false, cond}
 use mathlib.Core.List.{List}
 use mathlib.Core.Logic.{⊎-elim}
 use lib.Dec.{eqb, ltb}
@@ -13,7 +14,7 @@ use Rattle.numbers.specs.Sums.{gathered, total, many}
 use Rattle.numbers.proofs.Sums.{naturals}
 use Rattle.numbers.proofs.Ranges.{sum-more, sum-same, sum-nothing, sum-both, sum-apart, sum-changed, sum-classes, sum-within, sum-empty}
 use Rattle.numbers.proofs.Entries.{entry-place}
-use Rattle.numbers.proofs.Tests.{both, below-or-not}
+use Rattle.numbers.proofs.Tests.{both, below-or-not, same-or-not}
 use Rattle.numbers.proofs.Under.{under-within, under-follows, under-none, under-two, under-swapped, above-under}
 
 -- a test counts 1 where it passes
@@ -38,6 +39,24 @@ pub many-most : (n : ℕ) (s : ℕ → Bool) → many n s ≤ n
 unfolding counted gathered many
 many-most zero s = omega arith
 many-most (suc n) s = omega (arith, many-more n s, many-most n s, under-within (s n) 1)
+
+-- a count above 0 has a number that passes the test
+pub many-some : (n : ℕ) (s : ℕ → Bool) → 0 < many n s → (k : ℕ) × (k < n) × (s k ≡ true)
+unfolding many counted gathered
+many-some zero s h = absurd (not-suc-le-zero h)
+many-some (suc n) s h = go (s n) refl (λ (l : 0 < many n s). many-some n s l)
+  where
+    go : (t : Bool) → s n ≡ t → (0 < many n s → (k : ℕ) × (k < n) × (s k ≡ true)) → (k : ℕ) × (k < suc n) × (s k ≡ true)
+    go true e rest = (n, omega arith, e)
+    go false e rest = let it = rest (omega (arith, h, many-more n s, ap one e)) in (it .0, omega (arith, it .1), it .2)
+
+-- and a number that does not pass it leaves the count below n
+pub many-fewer : (n : ℕ) (s : ℕ → Bool) (j : ℕ) → j < n → s j ≡ false → many n s + 1 ≤ n
+many-fewer zero s j h e = absurd (not-suc-le-zero h)
+many-fewer (suc n) s j h e =
+    ⊎-elim (λ (i : j ≡ n). omega (arith, many-more n s, many-most n s, ap one (ap s (sym i) ∙ e)))
+    (λ i. omega (arith, many-more n s, many-fewer n s j (omega (arith, h, i)) e, under-within (s n) 1))
+    (same-or-not j n)
 
 module _ (n : ℕ) (s t : ℕ → Bool) where
   -- tests that agree
