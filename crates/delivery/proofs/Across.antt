@@ -1,7 +1,7 @@
 -- Step 3 closes exactly what is open, and leaves as many long lots as short ones.
 use Prim.Native.Nat.{ℕ, _+_, _-_, _≤_, _<_, min}
 use native.Mathlib.Omega.{arith}
-use mathlib.Core.Path.{_≡_, refl, sym, ap, subst, _∙_}
+use mathlib.Core.Path.{_≡_, refl, sym, ap, _∙_}
 use mathlib.Core.Bool.{Bool, true, false, cond, _&&_}
 use mathlib.Core.List.{List}
 use mathlib.Core.Logic.{⊎-elim}
@@ -11,21 +11,24 @@ use lib.IntN.{ℤ, natAbs}
 use Rattle.numbers.specs.Lists.{listed, entry, less}
 use Rattle.numbers.specs.Sums.{total}
 use Rattle.numbers.proofs.Sums.{naturals}
-use Rattle.numbers.proofs.Ranges.{listed-at, total-entries, sum-same, sum-both, sum-classes, sum-within, sum-nothing}
+use Rattle.numbers.proofs.Under.{under-same, under-none, under-two}
+use Rattle.numbers.proofs.Ranges.{listed-at, total-long, sum-same, sum-both, sum-classes, sum-within, sum-nothing}
 use Rattle.rules.specs.declared.book.Section.{Section}
 use Rattle.rules.specs.Book.{positionOf, sectionOf}
 use Rattle.rules.specs.Expiry.{opposed, chosen}
 use Rattle.rules.specs.Expiry.Across.{codeCaps, givenAcross}
 use Rattle.delivery.proofs.Greedy.{ofCode, Given, given}
-use Rattle.delivery.proofs.Sides.{lotsOf, sideOf, allOf, both-tests, chosen-within, lots-less, side-classes}
+use Rattle.delivery.proofs.Sides.{lotsOf, sideOf, allOf, chosen-within, lots-less, side-classes}
 
 -- what a code's sections on one side have
 pub chosen-of-code : (ss : List Section) (test : Section → Bool) (side : ℤ → Bool) (xs : List ℕ) (c : ℕ) → ((i : ℕ) → i < length ss → eqb (sectionOf ss i .settlement) c ≡ true → test (sectionOf ss i) ≡ side (positionOf (sectionOf ss i))) → ofCode ss c (chosen ss test xs) ≡ sideOf ss side c xs
-chosen-of-code ss test side xs c same = sum-same _+_ 0 naturals (length ss) _ _ (λ i h. go i h (eqb (sectionOf ss i .settlement) c) refl)
+chosen-of-code ss test side xs c same = sum-same _+_ 0 naturals (length ss) _ _ (λ i h. one i h (eqb (sectionOf ss i .settlement) c) (same i h))
   where
-    go : (i : ℕ) → i < length ss → (t : Bool) → eqb (sectionOf ss i .settlement) c ≡ t → cond (eqb (sectionOf ss i .settlement) c) (entry (chosen ss test xs) i) 0 ≡ cond (side (positionOf (sectionOf ss i)) && eqb (sectionOf ss i .settlement) c) (entry xs i) 0
-    go i h true e = rw (e, listed-at (length ss) (λ (j : ℕ). cond (test (sectionOf ss j)) (entry xs j) 0) i 0 h, same i h e) (sym (both-tests (side (positionOf (sectionOf ss i))) true (entry xs i)))
-    go i h false e = rw e (sym (both-tests (side (positionOf (sectionOf ss i))) false (entry xs i)))
+    one : (i : ℕ) → i < length ss → (t : Bool) → (t ≡ true → test (sectionOf ss i) ≡ side (positionOf (sectionOf ss i)))
+        → cond t (entry (chosen ss test xs) i) 0 ≡ cond (side (positionOf (sectionOf ss i)) && t) (entry xs i) 0
+    one i h t same =
+        under-same t _ _ (λ e. listed-at (length ss) (λ (j : ℕ). cond (test (sectionOf ss j)) (entry xs j) 0) i 0 h ∙ ap (λ (u : Bool). cond u (entry xs i) 0) (same e))
+        ∙ sym (under-two (side (positionOf (sectionOf ss i))) t (entry xs i))
 
 -- lots of one side only are all on it, and none on another
 module _ (ss : List Section) (test : Section → Bool) (xs ys : List ℕ) (long : length ys ≡ length ss) (each : (i : ℕ) → entry ys i ≤ entry (chosen ss test xs) i) where
@@ -36,19 +39,14 @@ module _ (ss : List Section) (test : Section → Bool) (xs ys : List ℕ) (long 
   pub side-all : (side : ℤ → Bool) → ((i : ℕ) → i < length ss → side (positionOf (sectionOf ss i)) ≡ false → test (sectionOf ss i) ≡ false) → allOf ss side ys ≡ total ys
   side-all side same =
       sum-same _+_ 0 naturals (length ss) _ _ (λ i h. go i h (side (positionOf (sectionOf ss i))) refl)
-      ∙ ap (λ (n : ℕ). total (listed n (entry ys))) (sym long)
-      ∙ total-entries ys
+      ∙ total-long ys (length ss) long
     where
       go : (i : ℕ) → i < length ss → (t : Bool) → side (positionOf (sectionOf ss i)) ≡ t → cond (side (positionOf (sectionOf ss i))) (entry ys i) 0 ≡ entry ys i
       go i h true e = ap (λ (t : Bool). cond t (entry ys i) 0) e
       go i h false e = ap (λ (t : Bool). cond t (entry ys i) 0) e ∙ sym (left-out i h (same i h e))
 
   pub lots-none : (pick : Section → Bool) → ((i : ℕ) → i < length ss → pick (sectionOf ss i) ≡ true → test (sectionOf ss i) ≡ false) → lotsOf ss pick ys ≡ 0
-  lots-none pick apart = sum-nothing _+_ 0 naturals (length ss) _ (λ i h. go i h (pick (sectionOf ss i)) refl)
-    where
-      go : (i : ℕ) → i < length ss → (t : Bool) → pick (sectionOf ss i) ≡ t → cond (pick (sectionOf ss i)) (entry ys i) 0 ≡ 0
-      go i h true e = ap (λ (t : Bool). cond t (entry ys i) 0) e ∙ left-out i h (apart i h e)
-      go i h false e = ap (λ (t : Bool). cond t (entry ys i) 0) e
+  lots-none pick apart = sum-nothing _+_ 0 naturals (length ss) _ (λ i h. under-none (pick (sectionOf ss i)) (entry ys i) (λ e. left-out i h (apart i h e)))
 
 -- `mine` is the side that gives, `other` the side of what is open
 module _ (ss : List Section) (codes : (i : ℕ) → i < length ss → sectionOf ss i .settlement < 64) (left : List ℕ) (d : ℤ) (mine other : ℤ → Bool) (faced : (p : ℤ) → opposed p d ≡ mine p) (apart : (p : ℤ) → other p ≡ true → mine p ≡ false) (net-cap : (c : ℕ) → c < 64 → entry (codeCaps ss d left) c ≡ sideOf ss mine c left - sideOf ss other c left) (more : natAbs d + allOf ss other left ≡ allOf ss mine left) where
@@ -64,7 +62,7 @@ module _ (ss : List Section) (codes : (i : ℕ) → i < length ss → sectionOf 
   at-least each =
       let a = givenAcross ss d left in
       let by-code : total (listed 64 (λ (c : ℕ). ofCode ss c a)) ≡ total a =
-      sum-classes _+_ 0 naturals (length ss) 64 (λ (i : ℕ). sectionOf ss i .settlement) (entry a) codes ∙ ap (λ (n : ℕ). total (listed n (entry a))) (sym (giving .long)) ∙ total-entries a in
+      sum-classes _+_ 0 naturals (length ss) 64 (λ (i : ℕ). sectionOf ss i .settlement) (entry a) codes ∙ total-long a (length ss) (giving .long) in
       omega (arith, sum-within 64 (λ (c : ℕ). sideOf ss mine c left) (λ (c : ℕ). ofCode ss c a + sideOf ss other c left) (λ c h. omega (arith, each c, net-cap c h, chosen-of-code ss facing mine left c (λ i k e. faced (positionOf (sectionOf ss i))))), sum-both _+_ 0 naturals 64 (λ (c : ℕ). ofCode ss c a) (λ (c : ℕ). sideOf ss other c left), by-code, side-classes ss mine left codes, side-classes ss other left codes)
 
   pub closed : total (givenAcross ss d left) ≡ natAbs d

@@ -1,18 +1,21 @@
 -- The register's lines are fewer than the delivering long sections and the drawn notices together.
-use Prim.Native.Nat.{ℕ, _+_, _≤_, _<_, min}
+use Prim.Native.Nat.{ℕ, _+_, _≤_, _<_}
 use native.Mathlib.Omega.{arith}
 use mathlib.Core.Path.{_≡_, refl, sym, ap, _∙_}
 use mathlib.Core.Bool.{Bool, true, false, cond, false≢true}
-use mathlib.Core.List.{List, [], _∷_}
+use mathlib.Core.List.{List}
 use mathlib.Core.Logic.{_⊎_, ⊎-elim}
 use lib.Dec.{eqb, ltb}
 use lib.ListN.{length}
-use borrow.Author.Tests.{ltb-true, lt-ltb, le-ltb, eqb-true, eq-eqb}
+use borrow.Author.Tests.{lt-ltb, eqb-true, eq-eqb}
 use Rattle.numbers.specs.Lists.{_and_, listed, entry}
 use Rattle.numbers.specs.Sums.{gathered, total, many}
-use Rattle.numbers.proofs.Ranges.{live, listed-at, chosen-yes, sum-same, sum-nothing, sum-both, sum-classes, sum-within, sum-empty}
+use Rattle.numbers.proofs.Ranges.{listed-at, chosen-yes, sum-nothing, sum-both, sum-within, sum-empty}
 use Rattle.numbers.proofs.Sums.{naturals}
+use Rattle.numbers.proofs.Lists.{empty}
 use Rattle.numbers.proofs.Tests.{both, together, below-or-not}
+use Rattle.numbers.proofs.Under.{under-sum, under-two, above-under, above-read}
+use Rattle.numbers.proofs.Counts.{one, one-above, many-same, many-within, many-nowhere, many-classes, live, live-some, firstIn, bothIn, in-classes, both-parts, both-within, both-nowhere}
 use Rattle.rules.specs.declared.book.Section.{Section}
 use Rattle.rules.specs.declared.book.Notice.{Notice}
 use Rattle.rules.specs.Book.{positionOf, sectionOf, noticeOf}
@@ -33,124 +36,6 @@ pub record Split (ss : List Section) (ns : List Notice) (near far inside outside
   -- a notice is drawn inside only where its section is short and has lots inside, and so outside
   pub of-inside : (k : ℕ) → k < length ns → 0 < entry inside k → (isShort (positionOf (sectionOf ss (noticeOf ns k .section))) ≡ true) × (0 < entry near (noticeOf ns k .section))
   pub of-outside : (k : ℕ) → k < length ns → 0 < entry outside k → (isShort (positionOf (sectionOf ss (noticeOf ns k .section))) ≡ true) × (0 < entry far (noticeOf ns k .section))
-
--- General laws of counts
-
--- a test counts 1 where it passes
-abbrev one : Bool → ℕ
-one t = cond t 1 0
-
-one-within : (s t : Bool) → (s ≡ true → t ≡ true) → one s ≤ one t
-one-within true t follows = omega (arith, ap one (follows refl))
-one-within false t follows = omega arith
-
-one-nowhere : (s : Bool) → (s ≡ true → ⊥) → one s ≡ 0
-one-nowhere true never = absurd (never refl)
-one-nowhere false never = refl
-
-one-and : (s t : Bool) → one (s and t) ≡ cond s (one t) 0
-one-and true t = refl
-one-and false t = refl
-
-in-turn : (s t : Bool) (x : ℕ) → cond (s and t) x 0 ≡ cond t (cond s x 0) 0
-in-turn true t x = refl
-in-turn false true x = refl
-in-turn false false x = refl
-
--- what is read by a test is above 0 where the test passes and the reading is
-above-and : (t : Bool) (x : ℕ) → ltb 0 (cond t x 0) ≡ (t and ltb 0 x)
-above-and true x = refl
-above-and false x = refl
-
-above-both : (t : Bool) (x y : ℕ) → ltb 0 (cond t x 0 + cond t y 0) ≡ (t and ltb 0 (x + y))
-above-both true x y = refl
-above-both false x y = refl
-
-above-read : (t : Bool) (x : ℕ) → 0 < cond t x 0 → (t ≡ true) × (0 < x)
-above-read true x h = (refl, h)
-above-read false x h = absurd (omega (arith, h))
-
--- a number above 0 counts 1
-one-above : (x : ℕ) → one (ltb 0 x) ≡ min x 1
-one-above x = ⊎-elim (λ (h : 0 < x). ap one (lt-ltb 0 x h) ∙ omega (arith, h)) (λ (h : x ≤ 0). ap one (le-ltb 0 x h) ∙ omega (arith, h)) (below-or-not 0 x)
-
--- of two numbers: each of them, their sum, and both
-one-sum : (x y : ℕ) → one (ltb 0 x) + one (ltb 0 y) ≡ one (ltb 0 (x + y)) + one (ltb 0 x and ltb 0 y)
-one-sum x y =
-    ⊎-elim (λ (h : 0 < x). rw (lt-ltb 0 x h, lt-ltb 0 (x + y) (omega (arith, h))) refl)
-    (λ (h : x ≤ 0). let same : x + y ≡ y = omega (arith, h) in rw (le-ltb 0 x h, same) (omega arith))
-    (below-or-not 0 x)
-
-module _ (n : ℕ) (s t : ℕ → Bool) where
-  -- counts by tests that agree, and by a test that follows from another
-  many-same : ((i : ℕ) → i < n → s i ≡ t i) → many n s ≡ many n t
-  unfolding many
-  many-same same = sum-same _+_ 0 naturals n _ _ (λ i h. ap one (same i h))
-
-  many-within : ((i : ℕ) → i < n → s i ≡ true → t i ≡ true) → many n s ≤ many n t
-  unfolding many
-  many-within follows = sum-within n _ _ (λ i h. one-within (s i) (t i) (follows i h))
-
--- by a test that never passes
-many-nowhere : (n : ℕ) (s : ℕ → Bool) → ((i : ℕ) → i < n → s i ≡ true → ⊥) → many n s ≡ 0
-unfolding many
-many-nowhere n s never = sum-nothing _+_ 0 naturals n _ (λ i h. one-nowhere (s i) (never i h))
-
--- where a sum is above 0, one of what it sums is
-live-some : (n : ℕ) (f : ℕ → ℕ) → 0 < total (listed n f) → 0 < live n f
-unfolding many
-live-some n f h =
-    ⊎-elim (λ (k : 0 < live n f). k)
-    (λ (k : live n f ≤ 0).
-    absurd (omega (arith, h, sum-nothing _+_ 0 naturals n f (λ i l. omega (arith, one-above (f i), sum-empty n (λ (j : ℕ). one (ltb 0 (f j))) (omega (arith, k)) i l)))))
-    (below-or-not 0 (live n f))
-
--- by classes
-many-classes : (n m : ℕ) (key : ℕ → ℕ) (s : ℕ → Bool) → ((i : ℕ) → i < n → key i < m) → total (listed m (λ (c : ℕ). many n (λ (i : ℕ). eqb (key i) c and s i))) ≡ many n s
-unfolding many
-many-classes n m key s below =
-    sum-same _+_ 0 naturals m _ _ (λ c h. sum-same _+_ 0 naturals n _ _ (λ i k. one-and (eqb (key i) c) (s i)))
-    ∙ sum-classes _+_ 0 naturals n m key (λ (i : ℕ). one (s i)) below
-
--- a list of no entries
-empty : {A : Type 0} (xs : List A) → length xs ≡ 0 → xs ≡ []
-empty [] e = refl
-empty (x ∷ xs) e = absurd (omega (arith, e))
-
--- what has lots inside its class (`a`) and outside (`b`): how many have lots inside a class, and how many there are split
-module _ (n : ℕ) (key a b : ℕ → ℕ) where
-  abbrev insideOf : ℕ → ℕ
-  insideOf c = live n (λ (i : ℕ). cond (eqb (key i) c) (a i) 0)
-
-  abbrev splitOf : ℕ → ℕ
-  splitOf c = many n (λ (i : ℕ). eqb (key i) c and ltb 0 (a i) and ltb 0 (b i))
-
-  -- those inside and those outside are those with lots, and the split ones once more; and so over all classes
-  twice : live n a + live n b ≡ live n (λ (i : ℕ). a i + b i) + many n (λ (i : ℕ). ltb 0 (a i) and ltb 0 (b i))
-  unfolding many
-  twice =
-      sym (sum-both _+_ 0 naturals n (λ (i : ℕ). one (ltb 0 (a i))) (λ (i : ℕ). one (ltb 0 (b i))))
-      ∙ sum-same _+_ 0 naturals n _ _ (λ i h. one-sum (a i) (b i))
-      ∙ sum-both _+_ 0 naturals n (λ (i : ℕ). one (ltb 0 (a i + b i))) (λ (i : ℕ). one (ltb 0 (a i) and ltb 0 (b i)))
-
-  in-classes : (m : ℕ) → ((i : ℕ) → i < n → key i < m) → total (listed m insideOf) + live n b ≡ live n (λ (i : ℕ). a i + b i) + total (listed m splitOf)
-  in-classes m below =
-      let near = sum-same _+_ 0 naturals m insideOf _ (λ c h. many-same n _ _ (λ i k. above-and (eqb (key i) c) (a i))) ∙ many-classes n m key (λ (i : ℕ). ltb 0 (a i)) below in
-      omega (arith, near, many-classes n m key (λ (i : ℕ). ltb 0 (a i) and ltb 0 (b i)) below, twice)
-
-  module _ (c : ℕ) where
-    parts : (i : ℕ) → (eqb (key i) c and ltb 0 (a i) and ltb 0 (b i)) ≡ true → (key i ≡ c) × (0 < a i) × (0 < b i)
-    parts i e =
-        let first = both (eqb (key i) c) (ltb 0 (a i) and ltb 0 (b i)) e in
-        let last = both (ltb 0 (a i)) (ltb 0 (b i)) (first .1) in
-        (eqb-true (key i) c (first .0), ltb-true 0 (a i) (last .0), ltb-true 0 (b i) (last .1))
-
-    -- the split ones of a class are no more than what passes a test that they pass; and none are split where that is absurd
-    split-within : (t : ℕ → Bool) → ((i : ℕ) → i < n → key i ≡ c → 0 < a i → 0 < b i → t i ≡ true) → splitOf c ≤ many n t
-    split-within t follows = many-within n _ t (λ i h e. let p = parts i e in follows i h (p .0) (p .1) (p .2))
-
-    unsplit : ((i : ℕ) → i < n → key i ≡ c → 0 < a i → 0 < b i → ⊥) → splitOf c ≡ 0
-    unsplit never = many-nowhere n _ (λ i h e. let p = parts i e in never i h (p .0) (p .1) (p .2))
 
 -- a pass with lines has fewer of them than buyers and notices, and one with none has no lots
 module _ (ss : List Section) (ns : List Notice) (pass : Pass) (formed : Formed ss ns pass) where
@@ -194,7 +79,7 @@ module _ (ss : List Section) (ns : List Notice) (near far inside outside : List 
 
   buyer-inside : (c i : ℕ) → i < length ss → entry (insideAt ss ns near far inside outside c .buyers) i ≡ cond (eqb (code i) c) (bought near i) 0
   unfolding insidePass
-  buyer-inside c i h = listed-at (length ss) _ i 0 h ∙ in-turn (long i) (eqb (code i) c) (entry near i)
+  buyer-inside c i h = listed-at (length ss) _ i 0 h ∙ under-two (long i) (eqb (code i) c) (entry near i)
 
   drawn-inside : (c k : ℕ) → k < length ns → entry (insideAt ss ns near far inside outside c .drawn) k ≡ cond (eqb (codeOfNotice k) c) (entry inside k) 0
   unfolding insidePass
@@ -210,10 +95,10 @@ module _ (ss : List Section) (ns : List Notice) (near far inside outside : List 
 
   -- the sections and the notices of a code that are split
   abbrev sectionsSplit : ℕ → ℕ
-  sectionsSplit = splitOf (length ss) code (bought near) (bought far)
+  sectionsSplit = bothIn (length ss) code (bought near) (bought far)
 
   abbrev noticesSplit : ℕ → ℕ
-  noticesSplit = splitOf (length ns) codeOfNotice (entry inside) (entry outside)
+  noticesSplit = bothIn (length ns) codeOfNotice (entry inside) (entry outside)
 
   -- a section of a code that is split, long or short
   abbrev crossing : ℕ → ℕ → Bool
@@ -226,7 +111,7 @@ module _ (ss : List Section) (ns : List Notice) (near far inside outside : List 
   sections-few c =
       omega (
         arith,
-        split-within (length ss) code (bought near) (bought far) c (crossing c) (λ i h e m k. crosses c i e (above-read (long i) (entry near i) m .1) (above-read (long i) (entry far i) k .1)),
+        both-within (length ss) code (bought near) (bought far) c (crossing c) (λ i h e m k. crosses c i e (above-read (long i) (entry near i) m .1) (above-read (long i) (entry far i) k .1)),
         split .one-section c,
       )
 
@@ -253,7 +138,7 @@ module _ (ss : List Section) (ns : List Notice) (near far inside outside : List 
             many-nowhere (length ns) (λ (k : ℕ). eqb (noticeOf ns k .section) i and splitNotice c k)
                 (λ k h t.
                 let at = both (eqb (noticeOf ns k .section) i) (splitNotice c k) t in
-                let its = parts (length ns) codeOfNotice (entry inside) (entry outside) c k (at .1) in
+                let its = both-parts (length ns) codeOfNotice (entry inside) (entry outside) c k (at .1) in
                 let crossed = crosses c (noticeOf ns k .section) (its .0) (split .of-inside k h (its .1) .1) (split .of-outside k h (its .2) .1) in
                 false≢true (sym e ∙ ap (crossing c) (sym (eqb-true (noticeOf ns k .section) i (at .0))) ∙ crossed)),
           )
@@ -275,13 +160,13 @@ module _ (ss : List Section) (ns : List Notice) (near far inside outside : List 
       (λ no-long.
       omega (
         arith,
-        unsplit (length ss) code (bought near) (bought far) c (λ i h e m k. let out = above-read (long i) (entry far i) k in omega (arith, out .1, no-long i h e (out .0))),
+        both-nowhere (length ss) code (bought near) (bought far) c (λ i h e m k. let out = above-read (long i) (entry far i) k in omega (arith, out .1, no-long i h e (out .0))),
         notices-few c,
       ))
       (λ no-short.
       omega (
         arith,
-        unsplit (length ns) codeOfNotice (entry inside) (entry outside) c
+        both-nowhere (length ns) codeOfNotice (entry inside) (entry outside) c
             (λ k h e m l. let out = split .of-outside k h l in omega (arith, out .1, no-short (noticeOf ns k .section) (sections k h) e (out .0))),
         sections-few c,
       ))
@@ -293,9 +178,9 @@ module _ (ss : List Section) (ns : List Notice) (near far inside outside : List 
       let pass = insideAt ss ns near far inside outside c in
       omega (
         arith,
-        unsplit (length ss) code (bought near) (bought far) c
+        both-nowhere (length ss) code (bought near) (bought far) c
             (λ i l e m k. omega (arith, m, no-buyer ss ns pass (formed-inside c h) none i, buyer-inside c i l, chosen-yes (code i) c (bought near i) 0 e)),
-        unsplit (length ns) codeOfNotice (entry inside) (entry outside) c
+        both-nowhere (length ns) codeOfNotice (entry inside) (entry outside) c
             (λ i l e m k. omega (arith, m, no-drawn ss ns pass (formed-inside c h) none i l, drawn-inside c i l, chosen-yes (codeOfNotice i) c (entry inside i) 0 e)),
       )
 
@@ -304,8 +189,8 @@ module _ (ss : List Section) (ns : List Notice) (near far inside outside : List 
       let pass = outsideAll ss ns near far inside outside in
       omega (
         arith,
-        unsplit (length ss) code (bought near) (bought far) c (λ i l e m k. omega (arith, k, no-buyer ss ns pass formed-outside none i, buyer-outside i l)),
-        unsplit (length ns) codeOfNotice (entry inside) (entry outside) c (λ i l e m k. omega (arith, k, no-drawn ss ns pass formed-outside none i l, drawn-outside i)),
+        both-nowhere (length ss) code (bought near) (bought far) c (λ i l e m k. omega (arith, k, no-buyer ss ns pass formed-outside none i, buyer-outside i l)),
+        both-nowhere (length ns) codeOfNotice (entry inside) (entry outside) c (λ i l e m k. omega (arith, k, no-drawn ss ns pass formed-outside none i l, drawn-outside i)),
       )
 
   -- so over all codes at most as many are split as have lines
@@ -320,10 +205,10 @@ module _ (ss : List Section) (ns : List Notice) (near far inside outside : List 
 
   -- a pass's lines, by the sections that buy in it and the notices drawn for it
   abbrev buyersInside : ℕ → ℕ
-  buyersInside = insideOf (length ss) code (bought near) (bought far)
+  buyersInside = firstIn (length ss) code (bought near) (bought far)
 
   abbrev noticesInside : ℕ → ℕ
-  noticesInside = insideOf (length ns) codeOfNotice (entry inside) (entry outside)
+  noticesInside = firstIn (length ns) codeOfNotice (entry inside) (entry outside)
 
   inside-few : (c : ℕ) → c < 64 → insideLines c + one (ltb 0 (insideLines c)) ≤ buyersInside c + noticesInside c
   inside-few c h =
@@ -360,7 +245,7 @@ module _ (ss : List Section) (ns : List Notice) (near far inside outside : List 
         outside-few,
         in-classes (length ss) code (bought near) (bought far) 64 codes,
         in-classes (length ns) codeOfNotice (entry inside) (entry outside) 64 (λ k h. codes (noticeOf ns k .section) (sections k h)),
-        many-same (length ss) (λ (i : ℕ). ltb 0 (bought near i + bought far i)) _ (λ i h. above-both (long i) (entry near i) (entry far i)),
+        many-same (length ss) (λ (i : ℕ). ltb 0 (bought near i + bought far i)) _ (λ i h. ap (ltb 0) (under-sum (long i) (entry near i) (entry far i) _ refl) ∙ above-under (long i) (entry near i + entry far i)),
       )
 
   -- the lines are fewer than the long sections that deliver and the notices that are drawn: what is split makes no more lines than there are codes with lines

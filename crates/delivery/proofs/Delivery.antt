@@ -4,15 +4,17 @@ use native.Mathlib.Omega.{arith}
 use mathlib.Core.Path.{_≡_, refl, sym, ap, ap₂, subst, _∙_}
 use mathlib.Core.Bool.{Bool, true, false, not, cond, _&&_, _||_, true≢false}
 use mathlib.Core.List.{List, [], map}
-use mathlib.Core.Logic.{_⊎_, inl, inr, ⊎-elim}
+use mathlib.Core.Logic.{inl, ⊎-elim}
 use lib.Dec.{eqb, ltb}
 use lib.ListN.{length}
 use lib.IntN.{ℤ, pos, negsuc, natAbs}
-use borrow.Author.Tests.{eqb-true, not-false, ltb-false}
+use borrow.Author.Tests.{eqb-true, not-false, ltb-true, ltb-false}
 use Rattle.numbers.specs.Lists.{_and_, listed, entry, less}
 use Rattle.numbers.specs.Sums.{total, totalℤ, many}
 use Rattle.numbers.proofs.Sums.{naturals}
-use Rattle.numbers.proofs.Ranges.{listed-at, listed-length, less-at, total-entries, sum-same, sum-both, sum-nothing, sum-classes, sum-part, chosen-yes}
+use Rattle.numbers.proofs.Ranges.{listed-length, less-at, total-long, sum-same, sum-both, sum-nothing, sum-under, sum-classes, sum-part, chosen-yes}
+use Rattle.numbers.proofs.Counts.{many-same, many-most, many-some, many-fewer}
+use Rattle.numbers.proofs.Under.{under-same, under-none, under-sum, under-two, under-swapped}
 use Rattle.numbers.proofs.Tests.{or-right, below-or-not}
 use Rattle.rules.specs.declared.book.Section.{Section}
 use Rattle.rules.specs.declared.book.Notice.{Notice}
@@ -21,30 +23,21 @@ use Rattle.rules.specs.Expiry.{size, isLong, isShort}
 use Rattle.rules.specs.Expiry.Failing.{fails, noticed}
 use Rattle.rules.specs.Expiry.Outside.{outside}
 use Rattle.rules.specs.Expiry.Drawing.{drawn}
-use Rattle.rules.specs.Expiry.Passes.{Line, Pass, insidePass, outsidePass}
+use Rattle.rules.specs.Expiry.Passes.{Line, insidePass, outsidePass}
 use Rattle.rules.specs.Expiry.Call.{delivered, passes, lines}
-use Rattle.delivery.proofs.Sides.{sideOf, allOf, Within, both-tests}
-use Rattle.delivery.proofs.Steps.{kept-even, within-kept, kept-failing, long-not-short}
+use Rattle.delivery.proofs.Sides.{sideOf, allOf, Within}
+use Rattle.delivery.proofs.Steps.{kept-even, within-kept, kept-failing, long-not-short, short-not-long}
 use Rattle.delivery.proofs.Inside.{far-within, inside-even, outside-even, one-stays, one-split-section}
 use Rattle.delivery.proofs.Drawing.{drawn-section, drawn-ignored, drawn-within, one-split}
 use Rattle.delivery.proofs.StageTwo.{lineLots}
 use Rattle.delivery.proofs.Formed.{Formed, formed}
-use Rattle.delivery.proofs.Register.{allLines, drawnFor, under-both, notice-lots, register-section}
+use Rattle.delivery.proofs.Register.{allLines, drawnFor, notice-lots, register-section}
 use Rattle.delivery.proofs.Count.{Split, lines-few}
 
 -- a position that is neither long nor short is 0
 even-position : (p : ℤ) → isLong p ≡ false → isShort p ≡ false → natAbs p ≡ 0
 even-position (pos n) long short = omega (arith, ltb-false 0 n long)
 even-position (negsuc n) long short = absurd (true≢false short)
-
--- under a test that does not depend on the number, a sum is under it
-neither : (t : Bool) → _≡_ {A = ℕ} (cond t 0 0) 0
-neither true = refl
-neither false = refl
-
-sum-under : (n : ℕ) (t : Bool) (read : ℕ → ℕ) → total (listed n (λ (k : ℕ). cond t (read k) 0)) ≡ cond t (total (listed n read)) 0
-sum-under n true read = refl
-sum-under n false read = sum-nothing _+_ 0 naturals n _ (λ k h. refl)
 
 module _ (ss : List Section) (ns : List Notice) (codes : (i : ℕ) → i < length ss → sectionOf ss i .settlement < 64) (even : totalℤ (map positionOf ss) ≡ pos 0) (sections : (k : ℕ) → k < length ns → noticeOf ns k .section < length ss) (elevators : (k : ℕ) → k < length ns → noticeOf ns k .elevator < 32) where
   -- what is delivered, what of it goes outside and what stays inside, and what is drawn of each notice for them
@@ -93,11 +86,7 @@ module _ (ss : List Section) (ns : List Notice) (codes : (i : ℕ) → i < lengt
     where
       go : (t : Bool) → isShort (positionOf (sectionOf ss i)) ≡ t → total (listed (length ns) (λ (k : ℕ). cond (eqb (noticeOf ns k .section) i) (entry (drawn ss ns from upto) k) 0)) ≡ cond t (entry upto i - entry from i) 0
       go true e = omega (arith, drawn-section ss ns from upto i e up (omega (arith, most, reach i h e)), up)
-      go false e = sum-nothing _+_ 0 naturals (length ns) _ (λ k l. other k (eqb (noticeOf ns k .section) i) refl)
-        where
-          other : (k : ℕ) (t : Bool) → eqb (noticeOf ns k .section) i ≡ t → cond (eqb (noticeOf ns k .section) i) (entry (drawn ss ns from upto) k) 0 ≡ 0
-          other k true s = ap (λ (t : Bool). cond t (entry (drawn ss ns from upto) k) 0) s ∙ drawn-ignored ss ns from upto k (ap (λ (j : ℕ). isShort (positionOf (sectionOf ss j))) (eqb-true (noticeOf ns k .section) i s) ∙ e)
-          other k false s = ap (λ (t : Bool). cond t (entry (drawn ss ns from upto) k) 0) s
+      go false e = sum-nothing _+_ 0 naturals (length ns) _ (λ k l. under-none (eqb (noticeOf ns k .section) i) (entry (drawn ss ns from upto) k) (λ s. drawn-ignored ss ns from upto k (ap (λ (j : ℕ). isShort (positionOf (sectionOf ss j))) (eqb-true (noticeOf ns k .section) i s) ∙ e)))
 
   -- inside and outside lots of a section, by its notices
   inside-of : (i : ℕ) → i < length ss → total (listed (length ns) (λ (k : ℕ). cond (eqb (noticeOf ns k .section) i) (entry inside k) 0)) ≡ cond (isShort (positionOf (sectionOf ss i))) (entry near i) 0
@@ -121,21 +110,21 @@ module _ (ss : List Section) (ns : List Notice) (codes : (i : ℕ) → i < lengt
     where
       one : (i : ℕ) → i < length ss → (t : Bool) → eqb (sectionOf ss i .settlement) c ≡ t → total (listed (length ns) (λ (k : ℕ). cond (eqb (noticeOf ns k .section) i) (cond (eqb (sectionOf ss (noticeOf ns k .section) .settlement) c) (entry inside k) 0) 0)) ≡ cond (isShort (positionOf (sectionOf ss i)) && eqb (sectionOf ss i .settlement) c) (entry near i) 0
       one i h t e =
-          sum-same _+_ 0 naturals (length ns) _ _ (λ k l. turned k (eqb (noticeOf ns k .section) i) refl)
-          ∙ sum-under (length ns) t (λ (k : ℕ). cond (eqb (noticeOf ns k .section) i) (entry inside k) 0)
+          sum-same _+_ 0 naturals (length ns) _ _ (λ k l. turned k)
+          ∙ sum-under _+_ 0 naturals (length ns) t (λ (k : ℕ). cond (eqb (noticeOf ns k .section) i) (entry inside k) 0)
           ∙ ap (λ (n : ℕ). cond t n 0) (inside-of i h)
-          ∙ sym (both-tests (isShort (positionOf (sectionOf ss i))) t (entry near i))
+          ∙ sym (under-two (isShort (positionOf (sectionOf ss i))) t (entry near i))
           ∙ ap (λ (u : Bool). cond (isShort (positionOf (sectionOf ss i)) && u) (entry near i) 0) (sym e)
         where
-          turned : (k : ℕ) (u : Bool) → eqb (noticeOf ns k .section) i ≡ u → cond (eqb (noticeOf ns k .section) i) (cond (eqb (sectionOf ss (noticeOf ns k .section) .settlement) c) (entry inside k) 0) 0 ≡ cond t (cond (eqb (noticeOf ns k .section) i) (entry inside k) 0) 0
-          turned k true s = rw (s, ap (λ (j : ℕ). eqb (sectionOf ss j .settlement) c) (eqb-true (noticeOf ns k .section) i s), e) refl
-          turned k false s = rw s (sym (neither t))
+          turned : (k : ℕ) → cond (eqb (noticeOf ns k .section) i) (cond (eqb (sectionOf ss (noticeOf ns k .section) .settlement) c) (entry inside k) 0) 0 ≡ cond t (cond (eqb (noticeOf ns k .section) i) (entry inside k) 0) 0
+          turned k =
+              under-same (eqb (noticeOf ns k .section) i) _ _ (λ s. ap (λ (u : Bool). cond u (entry inside k) 0) (ap (λ (j : ℕ). eqb (sectionOf ss j .settlement) c) (eqb-true (noticeOf ns k .section) i s) ∙ e))
+              ∙ under-swapped (eqb (noticeOf ns k .section) i) t (entry inside k)
 
   outside-drawn : total (outsidePass ss far beyond .drawn) ≡ allOf ss isShort far
   unfolding outsidePass drawn
   outside-drawn =
-      sym (total-entries beyond)
-      ∙ ap (λ (n : ℕ). total (listed n (entry beyond))) (listed-length (length ns) _)
+      sym (total-long beyond (length ns) (listed-length (length ns) _))
       ∙ sym (by-section (entry beyond))
       ∙ sum-same _+_ 0 naturals (length ss) _ _ (λ i h. beyond-of i h)
 
@@ -159,7 +148,8 @@ module _ (ss : List Section) (ns : List Notice) (codes : (i : ℕ) → i < lengt
 
   its-part : (read : ℕ → ℕ) (k : ℕ) → k < length ns → read k ≤ total (listed (length ns) (λ (j : ℕ). cond (eqb (noticeOf ns j .section) (noticeOf ns k .section)) (read j) 0))
   its-part read k h =
-      subst (λ (n : ℕ). n ≤ total (listed (length ns) (λ (j : ℕ). cond (eqb (noticeOf ns j .section) (noticeOf ns k .section)) (read j) 0))) (chosen-yes (noticeOf ns k .section) (noticeOf ns k .section) (read k) 0 refl) (sum-part (length ns) (λ (j : ℕ). cond (eqb (noticeOf ns j .section) (noticeOf ns k .section)) (read j) 0) k h)
+      let s = noticeOf ns k .section in
+      omega (arith, chosen-yes s s (read k) 0 refl, sum-part (length ns) (λ (j : ℕ). cond (eqb (noticeOf ns j .section) s) (read j) 0) k h)
 
   split : Split ss ns near far inside beyond
   split =
@@ -189,10 +179,10 @@ module _ (ss : List Section) (ns : List Notice) (codes : (i : ℕ) → i < lengt
   -- all that is drawn of a section's notices
   drawn-for : (i : ℕ) → i < length ss → (t : Bool) → isShort (positionOf (sectionOf ss i)) ≡ t → drawnFor ss ns near far inside beyond i ≡ cond t (entry near i + entry far i) 0
   drawn-for i h t e =
-      sum-same _+_ 0 naturals (length ns) _ _ (λ k l. sym (under-both (eqb (noticeOf ns k .section) i) (entry inside k) (entry beyond k)))
+      sum-same _+_ 0 naturals (length ns) _ _ (λ k l. sym (under-sum (eqb (noticeOf ns k .section) i) (entry inside k) (entry beyond k) _ refl))
       ∙ sum-both _+_ 0 naturals (length ns) _ _
       ∙ ap₂ _+_ (inside-of i h ∙ ap (λ (u : Bool). cond u (entry near i) 0) e) (beyond-of i h ∙ ap (λ (u : Bool). cond u (entry far i) 0) e)
-      ∙ under-both t (entry near i) (entry far i)
+      ∙ under-sum t (entry near i) (entry far i) _ refl
 
   -- a section's lots in the register are those that it delivers
   pub registered : (i : ℕ) → i < length ss → lineLots (λ (l : Line). eqb (l .buyer) i || eqb (l .seller) i) (lines ss ns) ≡ entry (delivered ss ns) i
@@ -220,4 +210,27 @@ module _ (ss : List Section) (ns : List Notice) (codes : (i : ℕ) → i < lengt
       some
     where
       delivering : many (length ss) (λ (i : ℕ). isLong (positionOf (sectionOf ss i)) and ltb 0 (entry near i + entry far i)) ≡ many (length ss) (λ (i : ℕ). isLong (positionOf (sectionOf ss i)) and ltb 0 (entry kept i))
-      delivering = sum-same _+_ 0 naturals (length ss) _ _ (λ i h. ap (λ (n : ℕ). cond {A = ℕ} (isLong (positionOf (sectionOf ss i)) && ltb 0 n) 1 0) (near-far i))
+      delivering = many-same (length ss) _ _ (λ i h. ap (λ (n : ℕ). isLong (positionOf (sectionOf ss i)) && ltb 0 n) (near-far i))
+
+  -- where a notice is drawn some section is short, so not all are long
+  some-short : (k : ℕ) → k < length ns → 0 < drawnAt k → many (length ss) (λ (i : ℕ). isLong (positionOf (sectionOf ss i)) and ltb 0 (entry (delivered ss ns) i)) + 1 ≤ length ss
+  some-short k h some =
+      let short : isShort (positionOf (sectionOf ss (noticeOf ns k .section))) ≡ true =
+      ⊎-elim (λ (l : 0 < entry inside k). of-short [] near k h l) (λ (l : entry inside k ≤ 0). of-short near kept k h (omega (arith, some, l))) (below-or-not 0 (entry inside k)) in
+      many-fewer (length ss) _ (noticeOf ns k .section) (sections k h) (ap (λ (t : Bool). t && ltb 0 (entry kept (noticeOf ns k .section))) (short-not-long (positionOf (sectionOf ss (noticeOf ns k .section))) short))
+
+  -- so the register has room for every line
+  pub lines-most : length ss ≤ 128 → length ns ≤ 256 → length (lines ss ns) ≤ 382
+  lines-most few-sections few-notices = ⊎-elim some-lines (λ (h : length (lines ss ns) ≤ 0). omega (arith, h)) (below-or-not 0 (length (lines ss ns)))
+    where
+      drawing : ℕ
+      drawing = many (length ns) (λ (k : ℕ). ltb 0 (drawnAt k))
+
+      some-lines : 0 < length (lines ss ns) → length (lines ss ns) ≤ 382
+      some-lines more =
+          ⊎-elim
+          (λ (h : 0 < drawing).
+          let it = many-some (length ns) (λ (k : ℕ). ltb 0 (drawnAt k)) h in
+          omega (arith, lines-below more, some-short (it .0) (it .1) (ltb-true 0 (drawnAt (it .0)) (it .2)), many-most (length ns) (λ (k : ℕ). ltb 0 (drawnAt k)), few-sections, few-notices))
+          (λ (h : drawing ≤ 0). omega (arith, h, lines-below more, many-most (length ss) (λ (i : ℕ). isLong (positionOf (sectionOf ss i)) and ltb 0 (entry (delivered ss ns) i)), few-sections))
+          (below-or-not 0 drawing)

@@ -1,10 +1,9 @@
 -- What is drawn of the notices of a short section, laid end to end.
 use Prim.Native.Nat.{ℕ, zero, suc, _+_, _-_, min, max, _≤_, _<_}
-use native.Mathlib.Nat.{add-zero}
 use native.Mathlib.Omega.{arith}
 use mathlib.Core.Path.{_≡_, refl, sym, ap, subst, _∙_}
 use mathlib.Core.Bool.{Bool, true, false, cond}
-use mathlib.Core.List.{List, [], _∷_, _++_, map, map-append}
+use mathlib.Core.List.{List, [], _∷_, _++_}
 use mathlib.Core.Logic.{⊎-elim}
 use lib.Dec.{eqb, ltb}
 use lib.ListN.{length, take}
@@ -14,23 +13,15 @@ use borrow.Author.Tests.{ltb-true, eqb-true}
 use Rattle.numbers.specs.Lists.{_and_, counted, entry, listed}
 use Rattle.numbers.specs.Sums.{gathered, total, many}
 use Rattle.numbers.proofs.Tests.{and-left, and-right, below-or-not}
-use Rattle.numbers.proofs.Sums.{naturals, total-append}
-use Rattle.numbers.proofs.Ranges.{listed-at, listed-past, sum-more}
+use Rattle.numbers.proofs.Sums.{naturals, total-last}
+use Rattle.numbers.proofs.Ranges.{listed-at, listed-past, listed-under, sum-more}
+use Rattle.numbers.proofs.Counts.{one, many-more, many-most}
 use Rattle.rules.specs.declared.book.Section.{Section}
 use Rattle.rules.specs.declared.book.Notice.{Notice}
 use Rattle.rules.specs.Book.{positionOf, sectionOf, noticeOf, blankNotice}
 use Rattle.rules.specs.Expiry.{isShort}
 use Rattle.rules.specs.Expiry.Failing.{noticed}
 use Rattle.rules.specs.Expiry.Drawing.{drawn}
-
--- how many numbers pass a test: below 0 none, and below one number more
-many-none : (test : ℕ → Bool) → many 0 test ≡ 0
-unfolding many counted gathered
-many-none test = refl
-
-many-more : (n : ℕ) (test : ℕ → Bool) → many (suc n) test ≡ many n test + cond (test n) 1 0
-unfolding many
-many-more n test = sum-more _+_ 0 naturals n (λ (i : ℕ). cond (test i) 1 0)
 
 -- what lots laid from a start on have of the lots from one place up to another
 abbrev shared : ℕ → ℕ → ℕ → ℕ → ℕ
@@ -44,22 +35,14 @@ shared-next start lots from upto = omega arith
 shared-both : (start lots from mid upto : ℕ) → shared start lots from mid + shared start lots mid upto ≤ lots
 shared-both start lots from mid upto = omega arith
 
--- a number that a test may strike out
-at-most : (t : Bool) (n : ℕ) → cond t n 0 ≤ n
-at-most true n = omega arith
-at-most false n = omega arith
-
 -- the lots of one notice that count for a section
 abbrev counts : ℕ → Notice → ℕ
 counts i n = cond (eqb (n .section) i) (natAbs (n .lots .0)) 0
 
 -- one notice more
 noticed-more : (ns : List Notice) (n : Notice) (i : ℕ) → noticed (ns ++ (n ∷ [])) i ≡ noticed ns i + counts i n
-unfolding noticed gathered
-noticed-more ns n i =
-    ap total (map-append (counts i) ns (n ∷ []))
-    ∙ total-append _+_ 0 naturals (map (counts i) ns) (counts i n ∷ [])
-    ∙ ap (λ (x : ℕ). total (map (counts i) ns) + x) (add-zero (counts i n))
+unfolding noticed
+noticed-more ns n i = total-last _+_ 0 naturals (counts i) ns n
 
 module _ (ss : List Section) (ns : List Notice) where
   -- the section and the lots of a notice, and the lots of the section's earlier notices
@@ -102,10 +85,8 @@ module _ (ss : List Section) (ns : List Notice) where
 
   -- never more is drawn
   drawn-most : (from upto : List ℕ) (k : ℕ) → entry (drawn ss ns from upto) k ≤ has from upto k (of k)
-  drawn-most from upto k =
-      ⊎-elim (λ (h : k < length ns). rw (drawn-at from upto k h) (at-most (isShort (positionOf (sectionOf ss (of k)))) _))
-      (λ (h : length ns ≤ k). rw (drawn-past from upto k h) (omega arith))
-      (below-or-not k (length ns))
+  unfolding drawn
+  drawn-most from upto k = listed-under (length ns) (λ (j : ℕ). isShort (positionOf (sectionOf ss (of j)))) (λ (j : ℕ). has from upto j (of j)) k
 
   -- the first m notices together have what the section's lots up to their end have
   drawn-first : (from upto : List ℕ) (i : ℕ) → isShort (positionOf (sectionOf ss i)) ≡ true → (m : ℕ) → m ≤ length ns
@@ -158,12 +139,12 @@ module _ (ss : List Section) (ns : List Notice) where
 
   -- of the first m notices at most one, and that only where their lots go beyond the inside lots
   split-first : (near kept : List ℕ) (i m : ℕ) → m ≤ length ns → many m (split near kept i) ≤ min 1 (earlier i m - entry near i)
-  split-first near kept i zero h = omega (arith, many-none (split near kept i))
+  split-first near kept i zero h = omega (arith, many-most 0 (split near kept i))
   split-first near kept i (suc m) h =
       rw (many-more m (split near kept i)) (go (split near kept i m) refl (split-first near kept i m (omega arith)))
     where
       go : (t : Bool) → split near kept i m ≡ t → many m (split near kept i) ≤ min 1 (earlier i m - entry near i)
-          → many m (split near kept i) + cond t 1 0 ≤ min 1 (earlier i (suc m) - entry near i)
+          → many m (split near kept i) + one t ≤ min 1 (earlier i (suc m) - entry near i)
       go true e before = omega (arith, before, split-there near kept i m h e)
       go false e before = omega (arith, before, earlier-next i m h)
 

@@ -1,15 +1,15 @@
 -- What is drawn of the notices, summed at each elevator.
 use Prim.Native.Nat.{ℕ, _+_, _≤_, _<_}
 use native.Mathlib.Omega.{arith}
-use mathlib.Core.Path.{_≡_, sym, ap, _∙_}
+use mathlib.Core.Path.{_≡_, sym, _∙_}
 use mathlib.Core.List.{List}
 use mathlib.Core.Logic.{⊎-elim}
 use lib.ListN.{length}
-use Rattle.numbers.specs.Lists.{entry, listed}
+use Rattle.numbers.specs.Lists.{entry}
 use Rattle.numbers.specs.Sums.{total}
 use Rattle.numbers.proofs.Sums.{naturals}
 use Rattle.numbers.proofs.Tests.{below-or-not}
-use Rattle.numbers.proofs.Ranges.{listed-length, listed-at, listed-past, chosen-no, sum-nothing, sum-classes, total-entries}
+use Rattle.numbers.proofs.Ranges.{listed-length, listed-at, listed-past, chosen-no, sum-nothing, sum-classes, total-long}
 use Rattle.rules.specs.declared.book.Notice.{Notice}
 use Rattle.rules.specs.Book.{noticeOf}
 use Rattle.rules.specs.Expiry.Passes.{offers, elevatorLots}
@@ -25,8 +25,7 @@ module _ (ns : List Notice) (drawn : List ℕ) where
   unfolding elevatorLots
   elevators-total below long =
       sum-classes _+_ 0 naturals (length ns) 32 (λ (k : ℕ). noticeOf ns k .elevator) (entry drawn) below
-      ∙ ap (λ (n : ℕ). total (listed n (entry drawn))) (sym long)
-      ∙ total-entries drawn
+      ∙ total-long drawn (length ns) long
 
   -- an elevator has what is drawn of the notices that stand there; past the 32 none stands
   pub elevators-at : (e : ℕ) → ((k : ℕ) → k < length ns → noticeOf ns k .elevator < 32) → entry (elevatorLots ns drawn) e ≡ total (offers ns drawn e)

@@ -3,15 +3,14 @@ use Prim.Native.Nat.{ℕ, zero, suc, _+_, _≤_, _<_}
 use native.Mathlib.Nat.{zero-min}
 use native.Mathlib.Omega.{arith}
 use mathlib.Core.Path.{_≡_, refl, sym, ap, _∙_}
-use mathlib.Core.Bool.{Bool, true, false, cond}
+use mathlib.Core.Bool.{Bool, cond}
 use mathlib.Core.List.{List, []}
 use mathlib.Core.Logic.{_⊎_, inl, inr, ⊎-elim}
 use lib.Dec.{eqb, ltb}
 use lib.ListN.{length}
-use Rattle.numbers.specs.Lists.{counted, listed, entry}
-use Rattle.numbers.specs.Sums.{gathered, total, many}
-use Rattle.numbers.proofs.Sums.{naturals}
-use Rattle.numbers.proofs.Ranges.{live, sum-more, sum-same}
+use Rattle.numbers.specs.Lists.{listed, entry}
+use Rattle.numbers.specs.Sums.{total}
+use Rattle.numbers.proofs.Counts.{live, many-most, many-same}
 use Rattle.rules.specs.declared.book.Section.{Section}
 use Rattle.rules.specs.declared.book.Notice.{Notice}
 use Rattle.rules.specs.Book.{noticeOf}
@@ -26,23 +25,6 @@ pub record Formed (ss : List Section) (ns : List Notice) (pass : Pass) : Type 0 
   pub by-notice : (test : ℕ → ℕ → Bool) → lineLots (λ (l : Line). test (l .seller) (l .elevator)) (linesOf ss ns pass)
       ≡ total (listed (length ns) (λ (k : ℕ). cond (test (noticeOf ns k .section) (noticeOf ns k .elevator)) (entry (pass .drawn) k) 0))
   pub few : (linesOf ss ns pass ≡ []) ⊎ (length (linesOf ss ns pass) + 1 ≤ live (length ss) (entry (pass .buyers)) + live (length ns) (entry (pass .drawn)))
-
--- General laws of counts
-
--- a test counts once at most, so no more numbers below n pass it than there are
-once : (t : Bool) → cond t 1 0 ≤ 1
-once true = omega arith
-once false = omega arith
-
-many-most : (n : ℕ) (test : ℕ → Bool) → many n test ≤ n
-unfolding counted gathered many
-many-most zero test = omega arith
-many-most (suc n) test = omega (arith, sum-more _+_ 0 naturals n (λ (i : ℕ). cond (test i) 1 0), many-most n test, once (test n))
-
--- tests that agree below n count the same
-many-same : (n : ℕ) (test other : ℕ → Bool) → ((i : ℕ) → i < n → test i ≡ other i) → many n test ≡ many n other
-unfolding many
-many-same n test other same = sum-same _+_ 0 naturals n _ _ (λ i h. ap (λ (t : Bool). cond t 1 0) (same i h))
 
 -- where there is no pair, there is no line
 no-pair : (ss : List Section) (ns : List Notice) (turns : ℕ) (drawn : List ℕ) → stageTwo ss ns turns [] drawn ≡ []

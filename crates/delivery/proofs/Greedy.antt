@@ -1,107 +1,29 @@
 -- Sections in an order give what they have, while their code's cap and the whole need last (`taken`, steps 2 to 4).
-use Prim.Native.Nat.{ℕ, zero, suc, _+_, _-_, _≤_, _<_, min}
+use Prim.Native.Nat.{ℕ, _+_, _-_, _≤_, _<_, min}
 use native.Mathlib.Omega.{arith}
-use mathlib.Core.Path.{_≡_, refl, sym, ap, _∙_}
+use mathlib.Core.Path.{_≡_, refl, ap, _∙_}
 use mathlib.Core.Bool.{Bool, true, false, cond}
 use mathlib.Core.List.{List, [], _∷_, map}
 use mathlib.Core.Logic.{_⊎_, inl, inr, ⊎-elim}
 use lib.Dec.{eqb, ltb}
 use lib.ListN.{length, set, replicate, length-set, length-replicate}
-use lib.Seq.{getD-set-same, getD-set-other, set-out}
+use lib.Seq.{getD-set-same, getD-set-other}
 use borrow.Author.Tests.{ltb-true, eqb-true}
-use Rattle.numbers.specs.Lists.{_and_, entry, counted, listed, ordered}
+use Rattle.numbers.specs.Lists.{_and_, entry, counted, listed}
 use Rattle.numbers.specs.Sums.{gathered, total, many}
 use Rattle.numbers.proofs.Sums.{naturals, total-set}
-use Rattle.numbers.proofs.Ranges.{getD-past, chosen-yes, chosen-no, sum-nothing, sum-one, sum-part, sum-changed, total-entries}
-use Rattle.numbers.proofs.Orders.{ordered-total}
+use Rattle.numbers.proofs.Under.{under-none}
+use Rattle.numbers.proofs.Entries.{entry-part, noughts-at, noughts-total, off-entry, off-total}
+use Rattle.numbers.proofs.Counts.{one}
+use Rattle.numbers.proofs.Ranges.{chosen-yes, chosen-no, sum-nothing, sum-changed}
+use Rattle.numbers.proofs.Orders.{ordered-total, times, Once, first-once, first-below, rest-once, ordered-once}
 use Rattle.numbers.proofs.Tests.{and-left, and-right, both, below-or-not, same-or-not}
 use Rattle.rules.specs.declared.book.Section.{Section}
 use Rattle.rules.specs.Book.{sectionOf}
 use Rattle.rules.specs.Expiry.{takenFrom, taken, inOrder}
 
--- Of lists in general.
-
--- a list of noughts
-noughts-at : (n i : ℕ) → entry (replicate n 0) i ≡ 0
-noughts-at zero i = refl
-noughts-at (suc n) zero = refl
-noughts-at (suc n) (suc i) = noughts-at n i
-
-noughts-total : (n : ℕ) → total (replicate n 0) ≡ 0
-unfolding gathered
-noughts-total zero = refl
-noughts-total (suc n) = omega (arith, noughts-total n)
-
--- an entry is at most the sum
-entry-part : (xs : List ℕ) (i : ℕ) → entry xs i ≤ total xs
-entry-part xs i =
-    ⊎-elim (λ (h : i < length xs). omega (arith, sum-part (length xs) (entry xs) i h, total-entries xs))
-    (λ (h : length xs ≤ i). omega (arith, getD-past xs i 0 h))
-    (below-or-not i (length xs))
-
--- taking some of one entry, at most what it is: the entry and the sum are less by that
-module _ (xs : List ℕ) (i a : ℕ) (h : a ≤ entry xs i) where
-  taken-at : (j : ℕ) → entry (set xs i (entry xs i - a)) j + cond (eqb i j) a 0 ≡ entry xs j
-  taken-at j =
-      ⊎-elim (λ (e : i ≡ j).
-      ⊎-elim (λ (k : i < length xs).
-      omega (arith, h, chosen-yes i j a 0 e, getD-set-same xs i (entry xs i - a) 0 k, ap (entry (set xs i (entry xs i - a))) e, ap (entry xs) e))
-      (λ (k : length xs ≤ i).
-      omega (arith, h, chosen-yes i j a 0 e, ap (λ (ys : List ℕ). entry ys j) (set-out xs i (entry xs i - a) k), getD-past xs i 0 k, ap (entry xs) e))
-      (below-or-not i (length xs)))
-      (λ (e : i ≡ j → ⊥). omega (arith, chosen-no i j a 0 e, getD-set-other xs i j (entry xs i - a) 0 (λ s. e (sym s))))
-      (same-or-not i j)
-
-  taken-total : total (set xs i (entry xs i - a)) + a ≡ total xs
-  taken-total =
-      ⊎-elim (λ (k : i < length xs). omega (arith, h, total-set _+_ 0 naturals xs i (entry xs i - a) k))
-      (λ (k : length xs ≤ i). omega (arith, h, ap total (set-out xs i (entry xs i - a) k), getD-past xs i 0 k))
-      (below-or-not i (length xs))
-
--- how often a number stands in a list
-abbrev times : ℕ → List ℕ → ℕ
-times j is = total (map (λ (i : ℕ). cond (eqb j i) 1 0) is)
-
--- numbers below n, each at most once
-record Once (n : ℕ) (is : List ℕ) : Type 0 where
-  once : (j : ℕ) → times j is ≤ 1
-  below : (j : ℕ) → n ≤ j → times j is ≡ 0
-
-module _ (n i : ℕ) (is : List ℕ) (o : Once n (i ∷ is)) where
-  first-once : times i is ≡ 0
-  unfolding gathered
-  first-once = omega (arith, o .once i, chosen-yes {A = ℕ} i i 1 0 refl)
-
-  first-below : i < n
-  unfolding gathered
-  first-below = ⊎-elim (λ (h : i < n). h) (λ (h : n ≤ i). absurd (omega (arith, o .below i h, chosen-yes {A = ℕ} i i 1 0 refl))) (below-or-not i n)
-
-  rest-once : Once n is
-  unfolding gathered
-  rest-once = record { once = λ j. omega (arith, o .once j); below = λ j h. omega (arith, o .below j h) }
-
--- the numbers below n in an order
-ordered-once : (earlier : ℕ → ℕ → Bool) (n : ℕ) → Once n (ordered earlier (counted 0 n))
-ordered-once earlier n = record { once = λ j. ⊎-elim (at-most j) (past-most j) (below-or-not j n); below = past }
-  where
-    same : (j : ℕ) → times j (ordered earlier (counted 0 n)) ≡ times j (counted 0 n)
-    same j = ordered-total _+_ 0 naturals earlier (λ (i : ℕ). cond (eqb j i) 1 0) (counted 0 n)
-
-    past : (j : ℕ) → n ≤ j → times j (ordered earlier (counted 0 n)) ≡ 0
-    past j h = same j ∙ sum-nothing _+_ 0 naturals n (λ (i : ℕ). cond (eqb j i) 1 0) (λ i k. chosen-no j i 1 0 (λ e. absurd (omega (arith, h, k, e))))
-
-    at-most : (j : ℕ) → j < n → times j (ordered earlier (counted 0 n)) ≤ 1
-    at-most j h = omega (arith, same j, sum-one _+_ 0 naturals n j 1 h)
-
-    past-most : (j : ℕ) → n ≤ j → times j (ordered earlier (counted 0 n)) ≤ 1
-    past-most j h = omega (arith, past j h)
-
--- nothing is read of a section that gives nothing
-neither : (t : Bool) → cond {A = ℕ} t 0 0 ≡ 0
-neither true = refl
-neither false = refl
-
-not-in-part : (t u : Bool) → cond {A = ℕ} (t and ltb 0 0 and u) 1 0 ≡ 0
+-- a section that gives nothing does not give in part
+not-in-part : (t u : Bool) → one (t and ltb 0 0 and u) ≡ 0
 not-in-part true u = refl
 not-in-part false u = refl
 
@@ -182,11 +104,11 @@ module _ (ss : List Section) (lots : List ℕ) where
     within-cap : amount ≤ entry caps (code i)
     within-cap = omega arith
 
-    left-at : (c : ℕ) → entry left c + cond (eqb (code i) c) amount 0 ≡ entry caps c
-    left-at c = taken-at caps (code i) amount within-cap c
+    left-at : (c : ℕ) → cond (eqb (code i) c) amount 0 + entry left c ≡ entry caps c
+    left-at = off-entry caps (code i) amount within-cap
 
-    left-total : total left + amount ≡ total caps
-    left-total = taken-total caps (code i) amount within-cap
+    left-total : amount + total left ≡ total caps
+    left-total = off-total caps (code i) amount within-cap
 
     now-each : ((j : ℕ) → entry done j ≤ entry lots j) → (j : ℕ) → entry now j ≤ entry lots j
     now-each le j =
@@ -203,11 +125,11 @@ module _ (ss : List Section) (lots : List ℕ) where
     now-read read none = omega (arith, none, ap (read i) nothing-yet, sum-changed _+_ 0 naturals read done 0 i amount (length ss) place (omega (arith, fresh .long)))
 
     now-of : (c : ℕ) → ofCode ss c now ≡ ofCode ss c done + cond (eqb (code i) c) amount 0
-    now-of c = now-read (λ (j v : ℕ). cond (eqb (code j) c) v 0) (neither (eqb (code i) c))
+    now-of c = now-read (λ (j v : ℕ). cond (eqb (code j) c) v 0) (under-none (eqb (code i) c) 0 (λ e. refl))
 
-    now-part : (c : ℕ) → inPart c now ≡ inPart c done + cond (eqb (code i) c and ltb 0 amount and ltb amount (entry lots i)) 1 0
+    now-part : (c : ℕ) → inPart c now ≡ inPart c done + one (eqb (code i) c and ltb 0 amount and ltb amount (entry lots i))
     unfolding many
-    now-part c = now-read (λ (j v : ℕ). cond (eqb (code j) c and ltb 0 v and ltb v (entry lots j)) 1 0) (not-in-part (eqb (code i) c) (ltb 0 (entry lots i)))
+    now-part c = now-read (λ (j v : ℕ). one (eqb (code j) c and ltb 0 v and ltb v (entry lots j))) (not-in-part (eqb (code i) c) (ltb 0 (entry lots i)))
 
     -- where the need does not end it, a code gives its cap or what it has, of this section and the rest
     joined : (result : List ℕ) (c : ℕ) → amount ≡ min (entry lots i) (entry caps (code i))
@@ -223,10 +145,10 @@ module _ (ss : List Section) (lots : List ℕ) where
 
     -- a section that gives in part has used up its code's cap
     used-up : (c : ℕ) → amount ≡ min (entry lots i) (entry caps (code i))
-        → cond (eqb (code i) c and ltb 0 amount and ltb amount (entry lots i)) 1 0 + min 1 (entry left c) ≤ min 1 (entry caps c)
+        → one (eqb (code i) c and ltb 0 amount and ltb amount (entry lots i)) + min 1 (entry left c) ≤ min 1 (entry caps c)
     used-up c full = go (eqb (code i) c and ltb 0 amount and ltb amount (entry lots i)) refl
       where
-        go : (t : Bool) → (eqb (code i) c and ltb 0 amount and ltb amount (entry lots i)) ≡ t → cond t 1 0 + min 1 (entry left c) ≤ min 1 (entry caps c)
+        go : (t : Bool) → (eqb (code i) c and ltb 0 amount and ltb amount (entry lots i)) ≡ t → one t + min 1 (entry left c) ≤ min 1 (entry caps c)
         go true e =
             let here : code i ≡ c = eqb-true (code i) c (and-left (eqb (code i) c) (ltb 0 amount and ltb amount (entry lots i)) e) in
             let inside = both (ltb 0 amount) (ltb amount (entry lots i)) (and-right (eqb (code i) c) (ltb 0 amount and ltb amount (entry lots i)) e) in
@@ -286,14 +208,14 @@ module _ (ss : List Section) (lots : List ℕ) where
   none-of : (c : ℕ) → ofCode ss c (replicate (length ss) 0) ≡ 0
   none-of c =
       sum-nothing _+_ 0 naturals (length ss) _
-      (λ i h. ap (λ (v : ℕ). cond (eqb (code i) c) v 0) (noughts-at (length ss) i) ∙ neither (eqb (code i) c))
+      (λ i h. under-none (eqb (code i) c) (entry (replicate (length ss) 0) i) (λ e. noughts-at (length ss) i))
 
   none-in-part : (c : ℕ) → inPart c (replicate (length ss) 0) ≡ 0
   unfolding many
   none-in-part c =
       sum-nothing _+_ 0 naturals (length ss) _
       (λ i h.
-      ap (λ (v : ℕ). cond {A = ℕ} (eqb (code i) c and ltb 0 v and ltb v (entry lots i)) 1 0) (noughts-at (length ss) i) ∙ not-in-part (eqb (code i) c) (ltb 0 (entry lots i)))
+      ap (λ (v : ℕ). one (eqb (code i) c and ltb 0 v and ltb v (entry lots i))) (noughts-at (length ss) i) ∙ not-in-part (eqb (code i) c) (ltb 0 (entry lots i)))
 
   -- an order has all sections, each once
   order-held : (sooner : ℕ → ℕ → Bool) (c : ℕ) → held c (inOrder sooner ss lots) ≡ ofCode ss c lots

@@ -1,53 +1,38 @@
 -- Step 4: what goes outside of a code is what one side has over the other, and what stays inside is even.
-use Prim.Native.Nat.{ℕ, _+_, _-_, _≤_, _<_, min, zero-le}
+use Prim.Native.Nat.{ℕ, _+_, _-_, _≤_, _<_, min}
 use native.Mathlib.Nat.{le-trans}
 use native.Mathlib.Omega.{arith}
-use mathlib.Core.Path.{_≡_, refl, sym, ap, ap₂, subst, _∙_}
-use mathlib.Core.Bool.{Bool, true, false, cond, _&&_, _||_}
+use mathlib.Core.Path.{_≡_, sym, ap, _∙_}
+use mathlib.Core.Bool.{Bool, true, false, cond, _&&_, and-true, and-false, or-false}
 use mathlib.Core.List.{List, map}
 use mathlib.Core.Logic.{_⊎_, inl, inr, ⊎-elim}
 use lib.Dec.{eqb, ltb}
-use lib.ListN.{length, getD}
+use lib.ListN.{length}
 use lib.IntN.{ℤ, pos, natAbs, _-ℤ_}
-use borrow.Author.Tests.{eqb-true, eq-eqb, lt-ltb, le-ltb, ltb-true, ltb-false}
+use borrow.Author.Tests.{eqb-true, eq-eqb, lt-ltb, ltb-true}
 use Rattle.numbers.specs.Lists.{_and_, listed, entry, entryℤ, less}
 use Rattle.numbers.specs.Sums.{total, many}
 use Rattle.numbers.proofs.Sums.{naturals}
+use Rattle.numbers.proofs.Whole.{difference-size, difference-above, difference-below}
+use Rattle.numbers.proofs.Counts.{many-within}
 use Rattle.numbers.proofs.Changed.{read-at}
-use Rattle.numbers.proofs.Ranges.{listed-at, listed-length, less-at, sum-same, sum-within, sum-empty}
+use Rattle.numbers.proofs.Ranges.{listed-at, listed-length, less-at, sum-same, sum-empty}
 use Rattle.numbers.proofs.Tests.{and-left, and-right, together, below-or-not}
 use Rattle.rules.specs.declared.book.Section.{Section}
 use Rattle.rules.specs.Book.{positionOf, sectionOf}
-use Rattle.rules.specs.Expiry.{size, isLong, isShort, agreed, netOfCode, chosen, inOrder, taken}
+use Rattle.rules.specs.Expiry.{size, isLong, isShort, agreed, netOfCode, chosen}
 use Rattle.rules.specs.Expiry.Outside.{outside}
 use Rattle.delivery.proofs.Greedy.{ofCode, Given, given, given-by-code, one-part}
-use Rattle.delivery.proofs.Sides.{lotsOf, sideOf, allOf, Within, chosen-within, lots-less, side-classes, net-sides, code-sides}
-use Rattle.delivery.proofs.Across.{chosen-of-code, left-out, lots-none}
-use Rattle.delivery.proofs.Steps.{difference-size, difference-long, difference-short, long-not-short, short-not-long}
-
--- a test that implies another counts no more
-counts-less : (s t : Bool) → (s ≡ true → t ≡ true) → cond {A = ℕ} s 1 0 ≤ cond {A = ℕ} t 1 0
-counts-less true t h = rw (h refl) (omega arith)
-counts-less false t h = zero-le
+use Rattle.delivery.proofs.Sides.{sideOf, allOf, chosen-within, lots-less, side-classes, net-sides, code-sides}
+use Rattle.delivery.proofs.Across.{chosen-of-code, lots-none}
+use Rattle.delivery.proofs.Steps.{long-not-short, short-not-long}
 
 -- on the side of a long number is long, and on the side of a short one short
 agrees-long : (p d : ℤ) → isLong d ≡ true → agreed p d ≡ isLong p
-agrees-long p d e = rw (e, long-not-short d e) (go (isLong p) (isShort p))
-  where
-    go : (a b : Bool) → (a && true || b && false) ≡ a
-    go true true = refl
-    go true false = refl
-    go false true = refl
-    go false false = refl
+agrees-long p d e = simp (e, long-not-short d e, and-true, and-false, or-false)
 
 agrees-short : (p d : ℤ) → isShort d ≡ true → agreed p d ≡ isShort p
-agrees-short p d e = rw (e, short-not-long d e) (go (isLong p) (isShort p))
-  where
-    go : (a b : Bool) → (a && false || b && true) ≡ b
-    go true true = refl
-    go true false = refl
-    go false true = refl
-    go false false = refl
+agrees-short p d e = simp (e, short-not-long d e, and-true, and-false)
 
 module _ (ss : List Section) (codes : (i : ℕ) → i < length ss → sectionOf ss i .settlement < 64) (kept : List ℕ) (within : (i : ℕ) → entry kept i ≤ size (sectionOf ss i)) where
   abbrev nets : List ℤ
@@ -110,10 +95,10 @@ module _ (ss : List Section) (codes : (i : ℕ) → i < length ss → sectionOf 
     its-net i e = ap (entryℤ nets) (eqb-true (sectionOf ss i .settlement) c e) ∙ net-at c below
 
     when-long : short < long → (i : ℕ) → eqb (sectionOf ss i .settlement) c ≡ true → agreeing (sectionOf ss i) ≡ isLong (positionOf (sectionOf ss i))
-    when-long h i e = agrees-long (positionOf (sectionOf ss i)) (entryℤ nets (sectionOf ss i .settlement)) (ap isLong (its-net i e) ∙ difference-long long short ∙ lt-ltb short long h)
+    when-long h i e = agrees-long (positionOf (sectionOf ss i)) (entryℤ nets (sectionOf ss i .settlement)) (ap isLong (its-net i e) ∙ difference-above long short ∙ lt-ltb short long h)
 
     when-short : long < short → (i : ℕ) → eqb (sectionOf ss i .settlement) c ≡ true → agreeing (sectionOf ss i) ≡ isShort (positionOf (sectionOf ss i))
-    when-short h i e = agrees-short (positionOf (sectionOf ss i)) (entryℤ nets (sectionOf ss i .settlement)) (ap isShort (its-net i e) ∙ difference-short long short ∙ lt-ltb long short h)
+    when-short h i e = agrees-short (positionOf (sectionOf ss i)) (entryℤ nets (sectionOf ss i .settlement)) (ap isShort (its-net i e) ∙ difference-below long short ∙ lt-ltb long short h)
 
     pub far-sides : (sideOf ss isLong c far ≡ long - short) × (sideOf ss isShort c far ≡ short - long)
     far-sides =
@@ -140,9 +125,9 @@ module _ (ss : List Section) (codes : (i : ℕ) → i < length ss → sectionOf 
 
   -- and at most one of its sections is split
   pub one-split-section : (c : ℕ) → many (length ss) (λ (i : ℕ). eqb (sectionOf ss i .settlement) c and ltb 0 (entry near i) and ltb 0 (entry far i)) ≤ 1
-  unfolding many outside
+  unfolding outside
   one-split-section c =
-      le-trans (sum-within (length ss) _ _ (λ i h. counts-less _ _ (split-part i h (eqb (sectionOf ss i .settlement) c)))) (one-part ss leading (λ (x y : ℕ). ltb y x) caps (total caps) c (omega arith))
+      le-trans (many-within (length ss) _ _ (λ i h. split-part i h (eqb (sectionOf ss i .settlement) c))) (one-part ss leading (λ (x y : ℕ). ltb y x) caps (total caps) c (omega arith))
     where
       -- a section that the step takes has all its lots
       all-or-none : (i : ℕ) → i < length ss → (entry leading i ≡ entry kept i) ⊎ (entry leading i ≡ 0)

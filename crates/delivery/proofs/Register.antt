@@ -1,17 +1,17 @@
 -- All passes: the register's lots by buyer and by notice.
 use Prim.Native.Nat.{ℕ, _+_, _≤_, _<_}
-use native.Mathlib.Nat.{add-zero}
 use native.Mathlib.Omega.{arith}
 use mathlib.Core.Path.{_≡_, refl, sym, ap, ap₂, _∙_}
-use mathlib.Core.Bool.{Bool, true, false, cond, _&&_, _||_}
-use mathlib.Core.List.{List, [], _∷_, _++_, map, map-append, map-map, flatMap}
+use mathlib.Core.Bool.{Bool, true, false, cond, _||_, or-true}
+use mathlib.Core.List.{List, [], _∷_, _++_, flatMap}
 use lib.Dec.{eqb}
 use lib.ListN.{length, length-append}
 use lib.IntN.{ℤ}
-use Rattle.numbers.specs.Lists.{counted, listed, entry}
+use Rattle.numbers.specs.Lists.{listed, entry}
 use Rattle.numbers.specs.Sums.{gathered, total}
-use Rattle.numbers.proofs.Sums.{naturals, total-append, total-map}
-use Rattle.numbers.proofs.Ranges.{listed-at, sum-same, sum-both, sum-one, sum-classes}
+use Rattle.numbers.proofs.Sums.{naturals, total-joined, total-map, total-within}
+use Rattle.numbers.proofs.Ranges.{listed-at, sum-same, sum-both, sum-one, sum-classes, measured-last}
+use Rattle.numbers.proofs.Under.{under-follows, under-sum, under-two, under-swapped, under-either}
 use Rattle.rules.specs.declared.book.Section.{Section}
 use Rattle.rules.specs.declared.book.Notice.{Notice}
 use Rattle.rules.specs.Book.{positionOf, sectionOf, noticeOf}
@@ -19,63 +19,6 @@ use Rattle.rules.specs.Expiry.{isLong, isShort}
 use Rattle.rules.specs.Expiry.Passes.{Line, Pass, linesOf, insidePass, outsidePass}
 use Rattle.delivery.proofs.StageTwo.{lineLots}
 use Rattle.delivery.proofs.Formed.{Formed}
-
--- General laws of sums
-
--- a measure of lists that adds up over an append, of the lists that the entries of a list stand for
-module _ {A B : Type 0} (measure : List B → ℕ) (none : measure [] ≡ 0) (joined : (xs ys : List B) → measure (xs ++ ys) ≡ measure xs + measure ys) (g : A → List B) where
-  measured : (xs : List A) → measure (flatMap g xs) ≡ total (map (λ (x : A). measure (g x)) xs)
-  unfolding flatMap gathered
-  measured [] = none
-  measured (x ∷ xs) = joined (g x) (flatMap g xs) ∙ ap (λ (n : ℕ). measure (g x) + n) (measured xs)
-
-  -- of n entries and one more
-  measured-last : (n : ℕ) (f : ℕ → A) (y : A) → measure (flatMap g (listed n f ++ (y ∷ []))) ≡ total (listed n (λ (c : ℕ). measure (g (f c)))) + measure (g y)
-  unfolding gathered
-  measured-last n f y =
-      let m : A → ℕ = λ (x : A). measure (g x) in
-      measured (listed n f ++ (y ∷ []))
-      ∙ ap total (map-append m (listed n f) (y ∷ []))
-      ∙ total-append _+_ 0 naturals (map m (listed n f)) (m y ∷ [])
-      ∙ ap₂ _+_ (ap total (map-map m f (counted 0 n))) (add-zero (m y))
-
--- sums of what is read of the entries are ordered as what is read
-total-within : {A : Type 0} (f g : A → ℕ) → ((x : A) → f x ≤ g x) → (xs : List A) → total (map f xs) ≤ total (map g xs)
-unfolding gathered
-total-within f g le [] = omega arith
-total-within f g le (x ∷ xs) = omega (arith, le x, total-within f g le xs)
-
--- General laws of what is read under a test
-
--- of a sum
-pub under-both : (t : Bool) (x y : ℕ) → cond t x 0 + cond t y 0 ≡ cond t (x + y) 0
-under-both true x y = refl
-under-both false x y = refl
-
--- under two tests, in either order
-under-two : (s t : Bool) (x : ℕ) → cond (s && t) x 0 ≡ cond t (cond s x 0) 0
-under-two true t x = refl
-under-two false true x = refl
-under-two false false x = refl
-
-under-swapped : (s t : Bool) (x : ℕ) → cond s (cond t x 0) 0 ≡ cond t (cond s x 0) 0
-under-swapped true t x = refl
-under-swapped false true x = refl
-under-swapped false false x = refl
-
--- under one of two tests
-under-left : (s t : Bool) (x : ℕ) → cond s x 0 ≤ cond (s || t) x 0
-under-left true t x = omega arith
-under-left false t x = omega arith
-
-under-right : (s t : Bool) (x : ℕ) → cond t x 0 ≤ cond (s || t) x 0
-under-right true true x = omega arith
-under-right true false x = omega arith
-under-right false t x = omega arith
-
-under-either : (s t : Bool) (x : ℕ) → cond (s || t) x 0 ≤ cond s x 0 + cond t x 0
-under-either true t x = omega arith
-under-either false t x = omega arith
 
 -- the lots of lines that pass one of two tests
 module _ (a b : Line → Bool) (ls : List Line) where
@@ -88,8 +31,8 @@ module _ (a b : Line → Bool) (ls : List Line) where
   either-lots =
       let read : (Line → Bool) → Line → ℕ = λ (test : Line → Bool) (l : Line). cond (test l) (l .lots) 0 in
       record {
-        left = total-within _ _ (λ l. under-left (a l) (b l) (l .lots)) ls;
-        right = total-within _ _ (λ l. under-right (a l) (b l) (l .lots)) ls;
+        left = total-within _ _ (λ l. under-follows (a l) (a l || b l) (l .lots) (λ e. simp e)) ls;
+        right = total-within _ _ (λ l. under-follows (b l) (a l || b l) (l .lots) (λ e. rw e (or-true (a l)))) ls;
         most = omega (
           arith,
           total-within (λ (l : Line). cond (a l || b l) (l .lots) 0) (λ (l : Line). read a l + read b l) (λ l. under-either (a l) (b l) (l .lots)) ls,
@@ -98,7 +41,7 @@ module _ (a b : Line → Bool) (ls : List Line) where
       }
 
 lots-append : (test : Line → Bool) (xs ys : List Line) → lineLots test (xs ++ ys) ≡ lineLots test xs + lineLots test ys
-lots-append test xs ys = ap total (map-append _ xs ys) ∙ total-append _+_ 0 naturals _ _
+lots-append test xs ys = total-joined _+_ 0 naturals (λ (l : Line). cond (test l) (l .lots) 0) xs ys
 
 module _ (ss : List Section) (ns : List Notice) (near far inside outside : List ℕ) where
   -- the passes, and all their lines
@@ -136,7 +79,7 @@ module _ (ss : List Section) (ns : List Notice) (near far inside outside : List 
         (sum-same _+_ 0 naturals 64 _ _ (λ c l. formed-inside c l .by-buyer b ∙ listed-at (length ss) _ b 0 h ∙ under-two long (eqb code c) (entry near b))
         ∙ sum-one _+_ 0 naturals 64 code (cond long (entry near b) 0) (codes b h))
         (formed-outside .by-buyer b ∙ listed-at (length ss) _ b 0 h)
-        ∙ under-both long (entry near b) (entry far b)
+        ∙ under-sum long (entry near b) (entry far b) _ refl
 
     -- a notice sells what is drawn of it, inside and outside
     pub notice-lots : (test : ℕ → ℕ → Bool) → lineLots (λ (l : Line). test (l .seller) (l .elevator)) allLines
@@ -157,7 +100,7 @@ module _ (ss : List Section) (ns : List Notice) (near far inside outside : List 
         ∙ sum-classes _+_ 0 naturals (length ns) 64 code of-inside (λ k h. codes (noticeOf ns k .section) (sections k h)))
         (formed-outside .by-notice test)
         ∙ sym (sum-both _+_ 0 naturals (length ns) of-inside of-outside)
-        ∙ sum-same _+_ 0 naturals (length ns) _ _ (λ k h. under-both (passes k) (entry inside k) (entry outside k))
+        ∙ sum-same _+_ 0 naturals (length ns) _ _ (λ k h. under-sum (passes k) (entry inside k) (entry outside k) _ refl)
 
     -- a section's lots in the register, bought or sold, are its inside and outside lots, where the notices have those of a short section and none of any other
     pub register-section : (i : ℕ) → i < length ss

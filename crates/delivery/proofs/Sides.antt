@@ -1,29 +1,22 @@
 -- Lots by section, summed over the sections that pass a test: the two sides of a code, and its net.
-use Prim.Native.Nat.{ℕ, zero, suc, _+_, _-_, _≤_, _<_}
+use Prim.Native.Nat.{ℕ, zero, suc, _+_, _≤_, _<_}
 use native.Mathlib.Omega.{arith}
 use mathlib.Core.Path.{_≡_, refl, sym, ap, ap₂, subst, _∙_}
 use mathlib.Core.Bool.{Bool, true, false, cond, _&&_}
-use mathlib.Core.List.{List, map, map-map}
-use mathlib.Core.Logic.{_⊎_, ⊎-elim}
-use lib.Dec.{eqb, ltb}
-use lib.ListN.{length, getD}
+use mathlib.Core.List.{List}
+use lib.Dec.{eqb}
+use lib.ListN.{length}
 use lib.IntN.{ℤ, pos, negsuc, negℤ, natAbs, _+ℤ_, _-ℤ_, +ℤ-idl, +ℤ-idr}
 use borrow.Author.Tests.{lt-ltb, le-ltb}
-use Rattle.numbers.specs.Lists.{_and_, counted, listed, entry, less}
-use Rattle.numbers.specs.Sums.{total, totalℤ}
-use Rattle.numbers.proofs.Sums.{naturals, wholes, total-kept, total-difference}
-use Rattle.numbers.proofs.Ranges.{listed-at, listed-past, listed-length, less-at, getD-past, sum-same, sum-both, sum-classes, sum-within, total-entries}
-use Rattle.numbers.proofs.Tests.{below-or-not, same-or-not}
+use Rattle.numbers.specs.Lists.{_and_, listed, entry, less}
+use Rattle.numbers.specs.Sums.{total}
+use Rattle.numbers.proofs.Sums.{naturals, wholes}
+use Rattle.numbers.proofs.Under.{under-within, under-sum, under-two}
+use Rattle.numbers.proofs.Ranges.{listed-under, less-at, sum-same, sum-both, sum-classes, sum-within, sum-difference, total-long}
 use Rattle.rules.specs.declared.book.Section.{Section}
 use Rattle.rules.specs.Book.{positionOf, sectionOf}
 use Rattle.rules.specs.Expiry.{size, isLong, isShort, onSideOf, netOfCode, chosen}
 use Rattle.delivery.proofs.Greedy.{ofCode}
-
--- one test after the other
-pub both-tests : (a b : Bool) (x : ℕ) → cond (a && b) x 0 ≡ cond b (cond a x 0) 0
-both-tests true b x = refl
-both-tests false true x = refl
-both-tests false false x = refl
 
 module _ (ss : List Section) where
   -- the lots of the sections that pass a test
@@ -45,25 +38,17 @@ module _ (ss : List Section) where
   pub lots-less : (test : Section → Bool) (xs ys : List ℕ) → ((i : ℕ) → entry ys i ≤ entry xs i) → lotsOf test (less xs ys) + lotsOf test ys ≡ lotsOf test xs
   lots-less test xs ys le =
       sym (sum-both _+_ 0 naturals (length ss) _ _)
-      ∙ sum-same _+_ 0 naturals (length ss) _ _ (λ i h. go (test (sectionOf ss i)) i)
-    where
-      go : (t : Bool) (i : ℕ) → cond t (entry (less xs ys) i) 0 + cond t (entry ys i) 0 ≡ cond t (entry xs i) 0
-      go true i = omega (arith, less-at xs ys i, le i)
-      go false i = refl
+      ∙ sum-same _+_ 0 naturals (length ss) _ _ (λ i h. under-sum (test (sectionOf ss i)) (entry (less xs ys) i) (entry ys i) (entry xs i) (omega (arith, less-at xs ys i, le i)))
 
   -- some of them are at most all
   pub lots-most : (test : Section → Bool) (xs : List ℕ) → length xs ≡ length ss → lotsOf test xs ≤ total xs
   lots-most test xs long =
-      subst (λ (n : ℕ). lotsOf test xs ≤ n) (ap (λ (n : ℕ). total (listed n (entry xs))) (sym long) ∙ total-entries xs) (sum-within (length ss) _ _ (λ i h. go (test (sectionOf ss i)) (entry xs i)))
-    where
-      go : (t : Bool) (x : ℕ) → cond t x 0 ≤ x
-      go true x = omega arith
-      go false x = omega arith
+      subst (λ (n : ℕ). lotsOf test xs ≤ n) (total-long xs (length ss) long) (sum-within (length ss) _ _ (λ i h. under-within (test (sectionOf ss i)) (entry xs i)))
 
   -- a side, code by code
   pub side-classes : (side : ℤ → Bool) (xs : List ℕ) → ((i : ℕ) → i < length ss → sectionOf ss i .settlement < 64) → total (listed 64 (λ (c : ℕ). sideOf side c xs)) ≡ allOf side xs
   side-classes side xs codes =
-      sum-same _+_ 0 naturals 64 _ _ (λ c h. sum-same _+_ 0 naturals (length ss) _ _ (λ i k. both-tests (side (positionOf (sectionOf ss i))) (eqb (sectionOf ss i .settlement) c) (entry xs i)))
+      sum-same _+_ 0 naturals 64 _ _ (λ c h. sum-same _+_ 0 naturals (length ss) _ _ (λ i k. under-two (side (positionOf (sectionOf ss i))) (eqb (sectionOf ss i .settlement) c) (entry xs i)))
       ∙ sum-classes _+_ 0 naturals (length ss) 64 (λ (i : ℕ). sectionOf ss i .settlement) (λ (i : ℕ). cond (side (positionOf (sectionOf ss i))) (entry xs i) 0) codes
 
 -- lots on the side of a position are its long lots less its short ones
@@ -77,14 +62,6 @@ both-sides (pos zero) x h = omega (arith, h)
 both-sides (pos (suc n)) x h = rw (lt-ltb 0 (suc n) (omega arith), le-ltb (suc n) 0 (omega arith)) (omega arith)
 both-sides (negsuc n) x h = omega arith
 
--- a sum of differences of natural numbers
-pub sum-difference : (n : ℕ) (f g : ℕ → ℕ) → totalℤ (listed n (λ (i : ℕ). pos (f i) -ℤ pos (g i))) ≡ pos (total (listed n f)) -ℤ pos (total (listed n g))
-sum-difference n f g =
-    total-difference (λ (i : ℕ). pos (f i)) (λ (i : ℕ). pos (g i)) (counted 0 n) ∙ ap₂ _-ℤ_ (of-wholes f) (of-wholes g)
-  where
-    of-wholes : (h : ℕ → ℕ) → totalℤ (map (λ (i : ℕ). pos (h i)) (counted 0 n)) ≡ pos (total (listed n h))
-    of-wholes h = sym (ap totalℤ (map-map pos h (counted 0 n))) ∙ total-kept _+_ 0 _+ℤ_ (pos 0) pos refl (λ (x y : ℕ). refl) (listed n h)
-
 module _ (ss : List Section) (xs : List ℕ) (within : (i : ℕ) → entry xs i ≤ size (sectionOf ss i)) where
   -- a code's net is its long lots less its short lots
   pub net-sides : (c : ℕ) → netOfCode ss xs c ≡ pos (sideOf ss isLong c xs) -ℤ pos (sideOf ss isShort c xs)
@@ -96,7 +73,7 @@ module _ (ss : List Section) (xs : List ℕ) (within : (i : ℕ) → entry xs i 
       one : (s : Section) (x : ℕ) → x ≤ size s → (t : Bool) → cond t (onSideOf (positionOf s) x) (pos 0) ≡ pos (cond (isLong (positionOf s) && t) x 0) -ℤ pos (cond (isShort (positionOf s) && t) x 0)
       one s x h t =
           by-test t
-          ∙ sym (ap₂ (λ (m n : ℕ). pos m -ℤ pos n) (both-tests (isLong (positionOf s)) t x) (both-tests (isShort (positionOf s)) t x))
+          ∙ sym (ap₂ (λ (m n : ℕ). pos m -ℤ pos n) (under-two (isLong (positionOf s)) t x) (under-two (isShort (positionOf s)) t x))
         where
           by-test : (t : Bool) → cond t (onSideOf (positionOf s) x) (pos 0) ≡ pos (cond t (cond (isLong (positionOf s)) x 0) 0) -ℤ pos (cond t (cond (isShort (positionOf s)) x 0) 0)
           by-test true = on-side (positionOf s) x h
@@ -109,19 +86,8 @@ module _ (ss : List Section) (xs : List ℕ) (within : (i : ℕ) → entry xs i 
       ∙ sum-both _+_ 0 naturals (length ss) _ _
     where
       one : (s : Section) (x : ℕ) → x ≤ size s → (t : Bool) → cond t x 0 ≡ cond (isLong (positionOf s) && t) x 0 + cond (isShort (positionOf s) && t) x 0
-      one s x h t = by-test t ∙ sym (ap₂ _+_ (both-tests (isLong (positionOf s)) t x) (both-tests (isShort (positionOf s)) t x))
-        where
-          by-test : (t : Bool) → cond t x 0 ≡ cond t (cond (isLong (positionOf s)) x 0) 0 + cond t (cond (isShort (positionOf s)) x 0) 0
-          by-test true = both-sides (positionOf s) x h
-          by-test false = refl
+      one s x h t = sym (ap₂ _+_ (under-two (isLong (positionOf s)) t x) (under-two (isShort (positionOf s)) t x) ∙ under-sum t _ _ x (sym (both-sides (positionOf s) x h)))
 
 -- of the sections that a step takes, each has at most what it had
 pub chosen-within : (ss : List Section) (test : Section → Bool) (xs : List ℕ) (i : ℕ) → entry (chosen ss test xs) i ≤ entry xs i
-chosen-within ss test xs i =
-    ⊎-elim (λ (h : i < length ss). subst (λ (m : ℕ). m ≤ entry xs i) (sym (listed-at (length ss) _ i 0 h)) (go (test (sectionOf ss i))))
-    (λ (h : length ss ≤ i). omega (arith, listed-past (length ss) (λ (j : ℕ). cond (test (sectionOf ss j)) (entry xs j) 0) i 0 h))
-    (below-or-not i (length ss))
-  where
-    go : (t : Bool) → cond t (entry xs i) 0 ≤ entry xs i
-    go true = omega arith
-    go false = omega arith
+chosen-within ss test xs i = listed-under (length ss) (λ (j : ℕ). test (sectionOf ss j)) (entry xs) i

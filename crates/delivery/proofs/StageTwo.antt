@@ -1,21 +1,23 @@
 -- Stage two: the lines that a pass forms.
 use Prim.Native.Nat.{ℕ, zero, suc, _+_, _-_, _≤_, _<_, min}
-use native.Mathlib.Nat.{not-suc-le-zero, le-of-suc-le-suc}
 use native.Mathlib.Omega.{arith}
 use mathlib.Core.Path.{_≡_, refl, sym, ap, ap₂, _∙_}
 use mathlib.Core.Bool.{Bool, true, false, cond}
 use mathlib.Core.List.{List, [], _∷_, map}
 use mathlib.Core.Logic.{_⊎_, inl, inr, ⊎-elim}
-use lib.Dec.{eqb, ltb}
-use lib.ListN.{length, getD, set, length-set, length-map, List·getD-map}
-use lib.Seq.{getD-set-same, getD-set-other}
-use borrow.Author.Tests.{lt-ltb, eqb-true, eqb-false}
+use lib.Dec.{eqb}
+use lib.ListN.{length, set, length-set, length-map, List·getD-map}
+use lib.Seq.{getD-set-same}
+use borrow.Author.Tests.{eqb-true, eqb-false}
 use Rattle.numbers.specs.Lists.{entry, listed, largest}
-use Rattle.numbers.specs.Sums.{gathered, total, many}
-use Rattle.numbers.proofs.Ranges.{live, listed-at, listed-past, listed-length, getD-past, chosen-yes, chosen-no, sum-same, sum-nothing, sum-changed, sum-part, sum-empty, total-entries}
-use Rattle.numbers.proofs.Orders.{largest-most}
+use Rattle.numbers.specs.Sums.{gathered, total}
+use Rattle.numbers.proofs.Ranges.{listed-at, listed-length, chosen-yes, chosen-no, sum-nothing, sum-changed, sum-part, sum-empty, total-part, total-nothing}
+use Rattle.numbers.proofs.Entries.{entry-place, none-total}
+use Rattle.numbers.proofs.Counts.{one-above, live, live-empty, live-nothing, live-apart, live-set, live-off}
+use Rattle.numbers.proofs.Orders.{largest-most, largest-none}
 use Rattle.numbers.proofs.Sums.{naturals, total-read-set}
-use Rattle.numbers.proofs.Tests.{below-or-not, same-or-not}
+use Rattle.numbers.proofs.Tests.{below-or-not}
+use Rattle.numbers.proofs.Under.{under-none, under-sum, above-read}
 use Rattle.rules.specs.declared.book.Section.{Section}
 use Rattle.rules.specs.declared.book.Notice.{Notice}
 use Rattle.rules.specs.Book.{noticeOf}
@@ -39,84 +41,6 @@ pub record Lined (ns : List Notice) (ps : List Pair) (drawn : List ℕ) (ls : Li
   pub by-buyer : (b : ℕ) → lineLots (λ (l : Line). eqb (l .buyer) b) ls ≡ pairLots (λ (p : Pair). eqb (p .buyer) b) ps
   pub by-notice : (test : ℕ → ℕ → Bool) → lineLots (λ (l : Line). test (l .seller) (l .elevator)) ls ≡ total (listed (length ns) (λ (k : ℕ). cond (test (noticeOf ns k .section) (noticeOf ns k .elevator)) (entry drawn k) 0))
   pub few : length ls + liveElevators ns drawn ≤ livePairs ps + live (length ns) (entry drawn)
-
--- General laws of sums and of counts
-
--- two readings that differ at one number only
-sum-apart : (n : ℕ) (f g : ℕ → ℕ) (j : ℕ) → j < n → ((i : ℕ) → i < n → (i ≡ j → ⊥) → f i ≡ g i) → total (listed n g) + f j ≡ total (listed n f) + g j
-sum-apart n f g j h same =
-    let there : j < length (listed n f) = omega (arith, h, listed-length n f) in
-    let changed = sum-changed _+_ 0 naturals (λ (i v : ℕ). v) (listed n f) 0 j (g j) n h (omega (arith, listed-length n f)) in
-    let at : (i : ℕ) → i < n → entry (set (listed n f) j (g j)) i ≡ g i =
-    λ i l.
-    ⊎-elim
-    (λ (e : i ≡ j). ap (entry (set (listed n f) j (g j))) e ∙ getD-set-same (listed n f) j (g j) 0 there ∙ ap g (sym e))
-    (λ (e : i ≡ j → ⊥). getD-set-other (listed n f) j i (g j) 0 e ∙ listed-at n f i 0 l ∙ same i l e)
-    (same-or-not i j)
-    in
-    let new = sum-same _+_ 0 naturals n (entry (set (listed n f) j (g j))) g at in
-    let old = sum-same _+_ 0 naturals n (entry (listed n f)) f (λ i l. listed-at n f i 0 l) in
-    omega (arith, changed, new, old, listed-at n f j 0 h)
-
--- what is read of one entry is at most the sum; where nothing is read of any, the sum is 0
-module _ {A : Type 0} (f : A → ℕ) (d : A) where
-  total-part : (xs : List A) (i : ℕ) → i < length xs → f (getD xs i d) ≤ total (map f xs)
-  unfolding gathered
-  total-part [] i h = absurd (not-suc-le-zero h)
-  total-part (x ∷ xs) zero h = omega arith
-  total-part (x ∷ xs) (suc i) h = omega (arith, total-part xs i (le-of-suc-le-suc h))
-
-  total-nothing : (xs : List A) → ((i : ℕ) → i < length xs → f (getD xs i d) ≡ 0) → total (map f xs) ≡ 0
-  unfolding gathered
-  total-nothing [] e = refl
-  total-nothing (x ∷ xs) e = omega (arith, e 0 (omega arith), total-nothing xs (λ i h. e (suc i) (omega (arith, h))))
-
--- how one number counts among those above 0
-abbrev alive : ℕ → ℕ
-alive v = cond (ltb 0 v) 1 0
-
-alive-yes : (v : ℕ) → 0 < v → alive v ≡ 1
-alive-yes v h = ap (λ (t : Bool). cond t 1 0) (lt-ltb 0 v h)
-
-alive-no : (v : ℕ) → v ≡ 0 → alive v ≡ 0
-alive-no v e = ap alive e
-
-alive-most : (v : ℕ) → alive v ≤ 1
-alive-most v = ⊎-elim (λ h. omega (arith, alive-yes v h)) (λ h. omega (arith, alive-no v (omega (arith, h)))) (below-or-not 0 v)
-
-alive-more : (v w : ℕ) → v ≤ w → alive v ≤ alive w
-alive-more v w le =
-    ⊎-elim (λ h. omega (arith, alive-yes v h, alive-yes w (omega (arith, h, le)))) (λ h. omega (arith, alive-no v (omega (arith, h)))) (below-or-not 0 v)
-
-alive-none : (v : ℕ) → alive v ≡ 0 → v ≡ 0
-alive-none v e = ⊎-elim (λ h. absurd (omega (arith, alive-yes v h, e))) (λ h. omega (arith, h)) (below-or-not 0 v)
-
-live-sum : (n : ℕ) (f : ℕ → ℕ) → live n f ≡ total (listed n (λ (i : ℕ). alive (f i)))
-unfolding many
-live-sum n f = refl
-
--- where nothing counts, each is 0
-live-empty : (n : ℕ) (f : ℕ → ℕ) → live n f ≡ 0 → (i : ℕ) → i < n → f i ≡ 0
-live-empty n f e i h = alive-none (f i) (sum-empty n (λ (j : ℕ). alive (f j)) (sym (live-sum n f) ∙ e) i h)
-
-live-nothing : (n : ℕ) (f : ℕ → ℕ) → ((i : ℕ) → i < n → f i ≡ 0) → live n f ≡ 0
-live-nothing n f e = live-sum n f ∙ sum-nothing _+_ 0 naturals n (λ (i : ℕ). alive (f i)) (λ i h. alive-no (f i) (e i h))
-
--- where one of the numbers changes
-live-apart : (n : ℕ) (f g : ℕ → ℕ) (j : ℕ) → j < n → ((i : ℕ) → i < n → (i ≡ j → ⊥) → f i ≡ g i) → live n g + alive (f j) ≡ live n f + alive (g j)
-live-apart n f g j h same =
-    omega (arith, live-sum n f, live-sum n g, sum-apart n (λ (i : ℕ). alive (f i)) (λ (i : ℕ). alive (g i)) j h (λ i l e. ap alive (same i l e)))
-
-live-set : {A : Type 0} (read : A → ℕ) (xs : List A) (d : A) (j : ℕ) (y : A) (n : ℕ) → n ≡ length xs → j < n
-    → live n (λ (i : ℕ). read (getD (set xs j y) i d)) + alive (read (getD xs j d)) ≡ live n (λ (i : ℕ). read (getD xs i d)) + alive (read y)
-live-set {A = A} read xs d j y n long h =
-    live-apart n (λ (i : ℕ). read (getD xs i d)) (λ (i : ℕ). read (getD (set xs j y) i d)) j h (λ i l e. ap read (sym (getD-set-other xs j i y d e)))
-    ∙ ap (λ (x : A). live n (λ (i : ℕ). read (getD xs i d)) + alive (read x)) (getD-set-same xs j y d (omega (arith, long, h)))
-
--- one part of what is read under a test is taken off
-split-off : (t : Bool) (all part : ℕ) → part ≤ all → cond t part 0 + cond t (all - part) 0 ≡ cond t all 0
-split-off true all part h = omega (arith, h)
-split-off false all part h = omega arith
 
 -- One turn
 
@@ -169,7 +93,7 @@ module _ {ns : List Notice} {ps : List Pair} {drawn : List ℕ} {p k amount : �
       omega (
         arith,
         total-read-set _+_ 0 naturals f ps p (pairLess (pairOf ps p) amount) noPair (turn .pair-place),
-        split-off (test (pairOf ps p .buyer) (pairOf ps p .elevator)) (pairOf ps p .lots) amount (turn .of-pair),
+        under-sum (test (pairOf ps p .buyer) (pairOf ps p .elevator)) amount (pairOf ps p .lots - amount) (pairOf ps p .lots) (omega (arith, turn .of-pair)),
       )
 
   drawn-falls : (test : ℕ → Bool) → cond (test k) amount 0 + drawnBy ns test (drawnLeft drawn k amount) ≡ drawnBy ns test drawn
@@ -177,7 +101,7 @@ module _ {ns : List Notice} {ps : List Pair} {drawn : List ℕ} {p k amount : �
       omega (
         arith,
         sum-changed _+_ 0 naturals (λ (j v : ℕ). cond (test j) v 0) drawn 0 k (entry drawn k - amount) (length ns) (turn .notice-place) (omega (arith, turn .long)),
-        split-off (test k) (entry drawn k) amount (turn .of-notice),
+        under-sum (test k) amount (entry drawn k - amount) (entry drawn k) (omega (arith, turn .of-notice)),
       )
 
   even-left : Even ns (pairsLeft ps p amount) (drawnLeft drawn k amount)
@@ -223,35 +147,34 @@ module _ {ns : List Notice} {ps : List Pair} {drawn : List ℕ} {p k amount : �
       )
 
   -- the pair ends or the notice does, and where the other goes on, so does their elevator
-  one-ends : alive (pairOf ps p .lots - amount) + alive (entry drawn k - amount) ≤ alive left-there
+  one-ends : min (pairOf ps p .lots - amount) 1 + min (entry drawn k - amount) 1 ≤ min left-there 1
   one-ends =
-      let pair = alive-more (pairOf ps p .lots - amount) left-there pair-there in
-      let notice = alive-more (entry drawn k - amount) left-there notice-there in
-      ⊎-elim
-      (λ (h : amount ≡ pairOf ps p .lots). omega (arith, notice, alive-no (pairOf ps p .lots - amount) (omega (arith, h))))
-      (λ (h : amount ≡ entry drawn k). omega (arith, pair, alive-no (entry drawn k - amount) (omega (arith, h))))
-      (turn .ends)
+      ⊎-elim (λ (h : amount ≡ pairOf ps p .lots). omega (arith, h, notice-there)) (λ (h : amount ≡ entry drawn k). omega (arith, h, pair-there)) (turn .ends)
 
   -- how many pairs, notices and elevators go on
-  pairs-live : livePairs (pairsLeft ps p amount) + 1 ≡ livePairs ps + alive (pairOf ps p .lots - amount)
+  pairs-live : livePairs (pairsLeft ps p amount) + 1 ≡ livePairs ps + min (pairOf ps p .lots - amount) 1
   pairs-live =
       let new = pairLess (pairOf ps p) amount in
       omega (
         arith,
         ap (λ (n : ℕ). live n (λ (i : ℕ). pairOf (pairsLeft ps p amount) i .lots)) (length-set ps p new),
-        live-set (λ (q : Pair). q .lots) ps noPair p new (length ps) refl (turn .pair-place),
-        alive-yes (pairOf ps p .lots) (omega (arith, turn .above, turn .of-pair)),
+        live-set (λ (q : Pair). q .lots) ps noPair p new (length ps) (turn .pair-place) (omega arith),
+        one-above (pairOf ps p .lots),
+        one-above (pairOf ps p .lots - amount),
+        turn .above,
+        turn .of-pair,
       )
 
-  drawn-live : live (length ns) (entry (drawnLeft drawn k amount)) + 1 ≡ live (length ns) (entry drawn) + alive (entry drawn k - amount)
+  drawn-live : live (length ns) (entry (drawnLeft drawn k amount)) + 1 ≡ live (length ns) (entry drawn) + min (entry drawn k - amount) 1
   drawn-live =
       omega (
         arith,
-        live-set (λ (v : ℕ). v) drawn 0 k (entry drawn k - amount) (length ns) (sym (turn .long)) (turn .notice-place),
-        alive-yes (entry drawn k) (omega (arith, turn .above, turn .of-notice)),
+        live-off drawn k amount (turn .above) (turn .of-notice),
+        ap (λ (n : ℕ). live n (entry (drawnLeft drawn k amount))) long-left,
+        ap (λ (n : ℕ). live n (entry drawn)) (turn .long),
       )
 
-  elevators-live : liveElevators ns (drawnLeft drawn k amount) + 1 ≡ liveElevators ns drawn + alive left-there
+  elevators-live : liveElevators ns (drawnLeft drawn k amount) + 1 ≡ liveElevators ns drawn + min left-there 1
   unfolding left-there
   elevators-live =
       let e = pairOf ps p .elevator in
@@ -261,12 +184,16 @@ module _ {ns : List Notice} {ps : List Pair} {drawn : List ℕ} {p k amount : �
         arith,
         live-apart 32 (λ (f : ℕ). total (offers ns drawn f)) (λ (f : ℕ). total (offers ns left f)) e (omega (arith, turn .elevator-place, turn .there))
             (λ f l other. omega (arith, falls f, chosen-no (noticeOf ns k .elevator) f amount 0 (λ s. other (sym s ∙ turn .there)))),
-        alive-yes (total (offers ns drawn e)) (omega (arith, turn .above, falls e, chosen-yes (noticeOf ns k .elevator) e amount 0 (turn .there))),
+        one-above (total (offers ns drawn e)),
+        one-above (total (offers ns left e)),
+        turn .above,
+        falls e,
+        chosen-yes (noticeOf ns k .elevator) e amount 0 (turn .there),
       )
 
   -- so the turns that are left are enough
   enough-left : (turns : ℕ) → livePairs ps + live (length ns) (entry drawn) ≤ suc turns → livePairs (pairsLeft ps p amount) + live (length ns) (entry (drawnLeft drawn k amount)) ≤ turns
-  enough-left turns enough = omega (arith, enough, one-ends, alive-most left-there, pairs-live, drawn-live)
+  enough-left turns enough = omega (arith, enough, one-ends, pairs-live, drawn-live)
 
   -- the turn's line, before the lines of what is left
   line-more : (ls : List Line) → Lined ns (pairsLeft ps p amount) (drawnLeft drawn k amount) ls
@@ -282,12 +209,8 @@ module _ {ns : List Notice} {ps : List Pair} {drawn : List ℕ} {p k amount : �
       }
 
 -- where nothing is left nothing is read, and there is no line
-nothing-read : (t : Bool) (v : ℕ) → v ≡ 0 → cond t v 0 ≡ 0
-nothing-read true v e = e
-nothing-read false v e = refl
-
 pairs-none : (test : Pair → Bool) (ps : List Pair) → ((p : ℕ) → p < length ps → pairOf ps p .lots ≡ 0) → pairLots test ps ≡ 0
-pairs-none test ps none = total-nothing (λ (q : Pair). cond (test q) (q .lots) 0) noPair ps (λ p h. nothing-read (test (pairOf ps p)) (pairOf ps p .lots) (none p h))
+pairs-none test ps none = total-nothing (λ (q : Pair). cond (test q) (q .lots) 0) noPair ps (λ p h. under-none (test (pairOf ps p)) (pairOf ps p .lots) (λ e. none p h))
 
 lined-none : (ns : List Notice) (ps : List Pair) (drawn : List ℕ)
     → ((p : ℕ) → p < length ps → pairOf ps p .lots ≡ 0) → ((k : ℕ) → k < length ns → entry drawn k ≡ 0) → Lined ns ps drawn []
@@ -300,7 +223,7 @@ lined-none ns ps drawn no-pair no-notice =
     }
   where
     nothing : (test : ℕ → Bool) → drawnBy ns test drawn ≡ 0
-    nothing test = sum-nothing _+_ 0 naturals (length ns) (λ (k : ℕ). cond (test k) (entry drawn k) 0) (λ k h. nothing-read (test k) (entry drawn k) (no-notice k h))
+    nothing test = sum-nothing _+_ 0 naturals (length ns) (λ (k : ℕ). cond (test k) (entry drawn k) 0) (λ k h. under-none (test k) (entry drawn k) (λ e. no-notice k h))
 
 -- The pair and the notice that a turn takes
 module _ (ss : List Section) (ns : List Notice) (ps : List Pair) (drawn : List ℕ) where
@@ -336,23 +259,18 @@ module _ (ss : List Section) (ns : List Notice) (ps : List Pair) (drawn : List �
   -- a pair with lots has a place
   pair-held : 0 < pairOf ps takenPair .lots → takenPair < length ps
   pair-held h =
-      ⊎-elim (λ (l : takenPair < length ps). l)
-      (λ (l : length ps ≤ takenPair). absurd (omega (arith, h, ap (λ (q : Pair). q .lots) (getD-past ps takenPair noPair l))))
-      (below-or-not takenPair (length ps))
+      let lots : Pair → ℕ = λ (q : Pair). q .lots in
+      omega (arith, length-map ps lots, entry-place (map lots ps) takenPair (omega (arith, h, List·getD-map lots ps takenPair noPair)))
 
   -- a notice with lots to offer has a place and stands at the pair's elevator, and offers all that is drawn of it
   notice-held : 0 < entry (offers ns drawn takenAt) takenNotice → takenNotice < length ns
-  notice-held h =
-      ⊎-elim (λ (l : takenNotice < length ns). l)
-      (λ (l : length ns ≤ takenNotice). absurd (omega (arith, h, listed-past (length ns) (offer ns drawn takenAt) takenNotice 0 l)))
-      (below-or-not takenNotice (length ns))
+  notice-held h = omega (arith, entry-place (offers ns drawn takenAt) takenNotice h, listed-length (length ns) (offer ns drawn takenAt))
 
   notice-at : 0 < entry (offers ns drawn takenAt) takenNotice → noticeOf ns takenNotice .elevator ≡ takenAt
   notice-at h =
+      let there = eqb (noticeOf ns takenNotice .elevator) takenAt in
       let read = listed-at (length ns) (offer ns drawn takenAt) takenNotice 0 (notice-held h) in
-      ⊎-elim (λ (s : noticeOf ns takenNotice .elevator ≡ takenAt). s)
-      (λ (s : noticeOf ns takenNotice .elevator ≡ takenAt → ⊥). absurd (omega (arith, h, read, chosen-no (noticeOf ns takenNotice .elevator) takenAt (entry drawn takenNotice) 0 s)))
-      (same-or-not (noticeOf ns takenNotice .elevator) takenAt)
+      eqb-true (noticeOf ns takenNotice .elevator) takenAt (above-read there (entry drawn takenNotice) (omega (arith, h, read)) .0)
 
   notice-drawn : 0 < entry (offers ns drawn takenAt) takenNotice → entry (offers ns drawn takenAt) takenNotice ≡ entry drawn takenNotice
   notice-drawn h =
@@ -365,7 +283,6 @@ module _ (ss : List Section) (ns : List Notice) (ps : List Pair) (drawn : List �
     notice-offered h =
         let at = offers ns drawn takenAt in
         let f : Pair → ℕ = λ (q : Pair). cond (eqb (q .elevator) takenAt) (q .lots) 0 in
-        let most = largest-most (λ (i j : ℕ). lowerCode ss (noticeOf ns i .section) (noticeOf ns j .section)) at in
         ⊎-elim (λ (l : 0 < entry at takenNotice). l)
         (λ (l : entry at takenNotice ≤ 0).
         absurd
@@ -375,8 +292,7 @@ module _ (ss : List Section) (ns : List Notice) (ps : List Pair) (drawn : List �
           total-part f noPair ps takenPair (pair-held h),
           chosen-yes takenAt takenAt (pairOf ps takenPair .lots) 0 refl,
           even takenAt,
-          total-entries at,
-          sum-nothing _+_ 0 naturals (length at) (entry at) (λ i b. omega (arith, most i b, l)),
+          none-total at (λ i b. largest-none (λ (i j : ℕ). lowerCode ss (noticeOf ns i .section) (noticeOf ns j .section)) at (omega (arith, l)) i),
         )))
         (below-or-not 0 (entry at takenNotice))
 

@@ -1,64 +1,32 @@
 -- Steps 1 to 4: what is delivered is even over all codes, what stays inside is even in each code, and what goes outside is even.
-use Prim.Native.Nat.{ℕ, zero, suc, _+_, _-_, _≤_, _<_, min}
+use Prim.Native.Nat.{ℕ, _+_, _-_, _≤_, _<_}
 use native.Mathlib.Omega.{arith}
 use mathlib.Core.Path.{_≡_, refl, sym, ap, ap₂, subst, _∙_}
-use mathlib.Core.Bool.{Bool, true, false, not, cond, _&&_, _||_, false≢true}
-use mathlib.Core.List.{List, [], map, map-map}
-use mathlib.Core.Logic.{_⊎_, inl, inr, ⊎-elim}
-use lib.Dec.{eqb, ltb}
-use lib.ListN.{length, getD, length-map}
-use lib.IntN.{ℤ, pos, negsuc, negℤ, natAbs, _+ℤ_, _-ℤ_}
+use mathlib.Core.Bool.{Bool, true, false, cond, false≢true, and-true, and-false, or-false}
+use mathlib.Core.List.{List, [], map}
+use mathlib.Core.Logic.{⊎-elim}
+use lib.Dec.{ltb}
+use lib.ListN.{length, List·getD-map}
+use lib.IntN.{ℤ, pos, negsuc, natAbs, _+ℤ_, _-ℤ_}
 use borrow.Author.Tests.{lt-ltb, le-ltb, ltb-true, ltb-false}
-use Rattle.numbers.specs.Lists.{_and_, counted, listed, entry, entryℤ, less}
+use Rattle.numbers.specs.Lists.{listed, entry, entryℤ, less}
 use Rattle.numbers.specs.Sums.{total, totalℤ}
-use Rattle.numbers.proofs.Whole.{plus, minus, ext, sum, difference, size, ltZ-sides}
+use Rattle.numbers.proofs.Whole.{plus, minus, ext, sum, difference, difference-size, difference-above, difference-below}
 use Rattle.numbers.proofs.Sums.{naturals, wholes}
-use Rattle.numbers.proofs.Changed.{read-at}
-use Rattle.numbers.proofs.Ranges.{listed-at, listed-past, listed-length, listed-entries, less-at, getD-past, total-entries, sum-same, sum-both, sum-classes, sum-within, sum-nothing, sum-empty}
+use Rattle.numbers.proofs.Ranges.{listed-at, listed-read, listed-under, less-at, sum-same, sum-both, sum-difference}
 use Rattle.numbers.proofs.Tests.{below-or-not}
 use Rattle.rules.specs.declared.book.Section.{Section}
 use Rattle.rules.specs.declared.book.Notice.{Notice}
-use Rattle.rules.specs.Book.{positionOf, sectionOf}
-use Rattle.rules.specs.Expiry.{isLong, isShort, opposed, agreed, onSideOf, netOfCode, chosen, inOrder, taken}
+use Rattle.rules.specs.Book.{positionOf, sectionOf, sectionOfNoughts}
+use Rattle.rules.specs.Expiry.{isLong, isShort, opposed, onSideOf, netOfCode, chosen}
 use Rattle.rules.specs.Expiry
 use Rattle.rules.specs.Expiry.Failing.{fails, failing}
 use Rattle.rules.specs.Expiry.Codes.{gaps, givenInCodes}
 use Rattle.rules.specs.Expiry.Across.{leftOpen, codeCaps, givenAcross}
-use Rattle.rules.specs.Expiry.Outside.{outside}
 use Rattle.rules.specs.Expiry.Call.{delivered}
-use Rattle.delivery.proofs.Greedy.{ofCode, Given, given, given-by-code}
-use Rattle.delivery.proofs.Across.{closed-even, chosen-of-code, left-out, lots-none}
-use Rattle.delivery.proofs.Sides.{lotsOf, sideOf, allOf, Within, lots-less, lots-most, side-classes, net-sides, code-sides, sum-difference, on-side, chosen-within}
-
--- one of a whole number's two sides is 0
-one-side : (z : ℤ) → (plus z ≡ 0) ⊎ (minus z ≡ 0)
-one-side (pos n) = inr refl
-one-side (negsuc n) = inl refl
-
--- two comparisons of the same outcome
-ltb-as : (a b c d : ℕ) → (c < d → a < b) → (d ≤ c → b ≤ a) → ltb a b ≡ ltb c d
-ltb-as a b c d yes′ no′ = go (ltb c d) refl
-  where
-    go : (t : Bool) → ltb c d ≡ t → ltb a b ≡ t
-    go true e = lt-ltb a b (yes′ (ltb-true c d e))
-    go false e = le-ltb a b (no′ (ltb-false c d e))
-
--- the sign and the size of a difference of natural numbers
-module _ (x y : ℕ) where
-  pub difference-size : natAbs (pos x -ℤ pos y) ≡ (x - y) + (y - x)
-  difference-size =
-      let z = pos x -ℤ pos y in
-      ⊎-elim (λ e. omega (arith, size z, difference (pos x) (pos y), e)) (λ e. omega (arith, size z, difference (pos x) (pos y), e)) (one-side z)
-
-  pub difference-long : isLong (pos x -ℤ pos y) ≡ ltb y x
-  difference-long =
-      let z = pos x -ℤ pos y in
-      ltZ-sides (pos 0) z ∙ ltb-as (0 + minus z) (plus z + 0) y x (λ h. omega (arith, difference (pos x) (pos y), h)) (λ h. omega (arith, difference (pos x) (pos y), h))
-
-  pub difference-short : isShort (pos x -ℤ pos y) ≡ ltb x y
-  difference-short =
-      let z = pos x -ℤ pos y in
-      ltZ-sides z (pos 0) ∙ ltb-as (plus z + 0) (0 + minus z) x y (λ h. omega (arith, difference (pos x) (pos y), h)) (λ h. omega (arith, difference (pos x) (pos y), h))
+use Rattle.delivery.proofs.Greedy.{Given, given}
+use Rattle.delivery.proofs.Across.{closed-even}
+use Rattle.delivery.proofs.Sides.{sideOf, allOf, Within, lots-less, lots-most, side-classes, net-sides, on-side, chosen-within}
 
 -- what one number has over another, where it has more
 over-other : (a b : ℕ) → cond (ltb b a) ((b - a) + (a - b)) 0 ≡ a - b
@@ -79,35 +47,19 @@ short-not-long (negsuc n) e = refl
 
 -- what faces a long number is short, and the other way round
 faces-long : (p d : ℤ) → isLong d ≡ true → opposed p d ≡ isShort p
-faces-long p d e = rw (e, long-not-short d e) (go (isLong p) (isShort p))
-  where
-    go : (a b : Bool) → (a && false || b && true) ≡ b
-    go true true = refl
-    go true false = refl
-    go false true = refl
-    go false false = refl
+faces-long p d e = simp (e, long-not-short d e, and-true, and-false)
 
 faces-short : (p d : ℤ) → isShort d ≡ true → opposed p d ≡ isLong p
-faces-short p d e = rw (e, short-not-long d e) (go (isLong p) (isShort p))
-  where
-    go : (a b : Bool) → (a && true || b && false) ≡ a
-    go true true = refl
-    go true false = refl
-    go false true = refl
-    go false false = refl
+faces-short p d e = simp (e, short-not-long d e, and-true, and-false, or-false)
 
 -- a section's lots are its position's size
 sizes-at : (ss : List Section) (i : ℕ) → entry (map Expiry.size ss) i ≡ Expiry.size (sectionOf ss i)
-sizes-at ss i =
-    ⊎-elim (λ (h : i < length ss). read-at Expiry.size ss i _ 0 h)
-    (λ (h : length ss ≤ i). getD-past (map Expiry.size ss) i 0 (omega (arith, length-map ss Expiry.size, h)) ∙ sym (ap Expiry.size (getD-past ss i _ h)))
-    (below-or-not i (length ss))
+sizes-at ss i = List·getD-map Expiry.size ss i (sectionOfNoughts [])
 
 -- the positions' sum is the long lots less the short ones
 positions-sides : (ss : List Section) → totalℤ (map positionOf ss) ≡ pos (allOf ss isLong (map Expiry.size ss)) -ℤ pos (allOf ss isShort (map Expiry.size ss))
 positions-sides ss =
-    ap (λ (ts : List Section). totalℤ (map positionOf ts)) (sym (listed-entries ss _))
-    ∙ ap totalℤ (map-map positionOf (sectionOf ss) (counted 0 (length ss)))
+    sym (ap totalℤ (listed-read positionOf ss (sectionOfNoughts [])))
     ∙ sum-same _+ℤ_ (pos 0) wholes (length ss) _ _ (λ i h. whole (positionOf (sectionOf ss i)) ∙ on-side (positionOf (sectionOf ss i)) (Expiry.size (sectionOf ss i)) (omega arith) ∙ ap (λ (x : ℕ). pos (cond (isLong (positionOf (sectionOf ss i))) x 0) -ℤ pos (cond (isShort (positionOf (sectionOf ss i))) x 0)) (sym (sizes-at ss i)))
     ∙ sum-difference (length ss) _ _
   where
@@ -143,14 +95,7 @@ module _ (ss : List Section) (ns : List Notice) (codes : (i : ℕ) → i < lengt
 
   failed-within : (i : ℕ) → entry failed i ≤ entry sizes i
   unfolding failing
-  failed-within i =
-      ⊎-elim (λ (h : i < length ss). subst (λ (m : ℕ). m ≤ entry sizes i) (sym (listed-at (length ss) _ i 0 h)) (subst (λ (m : ℕ). cond (fails ss ns i) (Expiry.size (sectionOf ss i)) 0 ≤ m) (sym (sizes-at ss i)) (go (fails ss ns i))))
-      (λ (h : length ss ≤ i). omega (arith, listed-past (length ss) (λ (j : ℕ). cond (fails ss ns j) (Expiry.size (sectionOf ss j)) 0) i 0 h))
-      (below-or-not i (length ss))
-    where
-      go : (t : Bool) → cond t (Expiry.size (sectionOf ss i)) 0 ≤ Expiry.size (sectionOf ss i)
-      go true = omega arith
-      go false = omega arith
+  failed-within i = omega (arith, sizes-at ss i, listed-under (length ss) (fails ss ns) (λ (j : ℕ). Expiry.size (sectionOf ss j)) i)
 
   in-codes-within : (i : ℕ) → entry inCodes i ≤ entry sound i
   unfolding givenInCodes
@@ -245,13 +190,13 @@ module _ (ss : List Section) (ns : List Notice) (codes : (i : ℕ) → i < lengt
       above : y < x → allOf ss isLong (less left across) ≡ allOf ss isShort (less left across)
       above h =
           sym
-          (kept-even-from isShort isLong (λ p. faces-long p open′ (ap isLong open-sides ∙ difference-long x y ∙ lt-ltb y x h)) long-not-short
-          (λ c. ap isShort (net-sides ss left within-left c) ∙ difference-short (sideOf ss isLong c left) (sideOf ss isShort c left)) net-size (omega (arith, h, size-of-open, left-open)))
+          (kept-even-from isShort isLong (λ p. faces-long p open′ (ap isLong open-sides ∙ difference-above x y ∙ lt-ltb y x h)) long-not-short
+          (λ c. ap isShort (net-sides ss left within-left c) ∙ difference-below (sideOf ss isLong c left) (sideOf ss isShort c left)) net-size (omega (arith, h, size-of-open, left-open)))
 
       below : x < y → allOf ss isLong (less left across) ≡ allOf ss isShort (less left across)
       below h =
-          kept-even-from isLong isShort (λ p. faces-short p open′ (ap isShort open-sides ∙ difference-short x y ∙ lt-ltb x y h)) short-not-long
-          (λ c. ap isLong (net-sides ss left within-left c) ∙ difference-long (sideOf ss isLong c left) (sideOf ss isShort c left)) (λ c. omega (arith, net-size c)) (omega (arith, h, size-of-open, left-open))
+          kept-even-from isLong isShort (λ p. faces-short p open′ (ap isShort open-sides ∙ difference-below x y ∙ lt-ltb x y h)) short-not-long
+          (λ c. ap isLong (net-sides ss left within-left c) ∙ difference-above (sideOf ss isLong c left) (sideOf ss isShort c left)) (λ c. omega (arith, net-size c)) (omega (arith, h, size-of-open, left-open))
 
       level : x ≤ y → y ≤ x → allOf ss isLong (less left across) ≡ allOf ss isShort (less left across)
       level h k =

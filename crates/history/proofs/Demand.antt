@@ -1,22 +1,22 @@
 -- Demand 3: what an accepted expiry delivers, and with it the one theorem over every list of calls.
-use Prim.Native.Nat.{ℕ, zero, suc, _+_, _≤_, _<_}
-use native.Mathlib.Nat.{not-suc-le-zero, le-of-suc-le-suc}
+use Prim.Native.Nat.{ℕ, _+_, _≤_, _<_}
 use native.Mathlib.Omega.{arith}
-use mathlib.Core.Path.{_≡_, refl, sym, ap, ap₂, subst, _∙_}
-use mathlib.Core.Bool.{Bool, true, false, not, cond, _&&_, _||_}
-use mathlib.Core.List.{List, [], _∷_}
-use mathlib.Core.Logic.{_⊎_, ⊎-elim}
+use mathlib.Core.Path.{_≡_, sym, ap, ap₂, _∙_}
+use mathlib.Core.Bool.{Bool, true, false, cond, _&&_}
+use mathlib.Core.List.{List}
+use mathlib.Core.Logic.{⊎-elim}
 use lib.Dec.{eqb, ltb, leb}
-use lib.ListN.{length, getD, take}
-use lib.Seq.{getD-take, length-take-le}
-use lib.IntN.{ℤ, pos, natAbs}
-use borrow.Author.Tests.{eq-eqb, ltb-true, not-true, leb-true}
-use Rattle.numbers.specs.Lists.{_and_, apart, some, listed, entry}
+use lib.ListN.{length}
+use lib.Seq.{getD-take}
+use lib.IntN.{ℤ, natAbs}
+use borrow.Author.Tests.{eq-eqb, ltb-true, leb-true}
+use Rattle.numbers.specs.Lists.{_and_, listed, entry}
 use Rattle.numbers.specs.Sums.{total, many}
 use Rattle.numbers.proofs.Sums.{naturals}
-use Rattle.numbers.proofs.Lists.{every-at}
+use Rattle.numbers.proofs.Lists.{every-at, apart-at}
+use Rattle.numbers.proofs.Counts.{many-same}
 use Rattle.numbers.proofs.Ranges.{sum-same, sum-one, chosen-yes, chosen-no}
-use Rattle.numbers.proofs.Tests.{and-left, and-right, or-left, or-right, eqb-sym, below-or-not, same-or-not}
+use Rattle.numbers.proofs.Tests.{and-left, and-right, eqb-sym, below-or-not, same-or-not}
 use Rattle.rules.specs.declared.book.Book.{Book}
 use Rattle.rules.specs.declared.book.Section.{Section}
 use Rattle.rules.specs.declared.book.Notice.{Notice}
@@ -32,21 +32,6 @@ use Rattle.delivery.proofs.StageTwo.{lineLots}
 use Rattle.delivery.proofs.Delivery
 use Rattle.history.proofs.Written
 use Rattle.history.proofs.Run
-
--- where no two entries are alike, an entry and a later one are not
-module _ {A : Type 0} where
-  none-at : (p : A → Bool) (xs : List A) (i : ℕ) (d : A) → some p xs ≡ false → i < length xs → p (getD xs i d) ≡ false
-  unfolding some
-  none-at p [] i d e h = absurd (not-suc-le-zero h)
-  none-at p (x ∷ xs) zero d e h = or-left (p x) (some p xs) e
-  none-at p (x ∷ xs) (suc i) d e h = none-at p xs i d (or-right (p x) (some p xs) e) (le-of-suc-le-suc h)
-
-  apart-at : (alike : A → A → Bool) (xs : List A) (d : A) (i j : ℕ) → apart alike xs ≡ true → i < j → j < length xs → alike (getD xs i d) (getD xs j d) ≡ false
-  unfolding apart
-  apart-at alike [] d i j e l h = absurd (not-suc-le-zero h)
-  apart-at alike (x ∷ xs) d i zero e l h = absurd (not-suc-le-zero l)
-  apart-at alike (x ∷ xs) d zero (suc j) e l h = none-at (alike x) xs j d (not-true (some (alike x) xs) (and-left (not (some (alike x) xs)) (apart alike xs) e)) (le-of-suc-le-suc h)
-  apart-at alike (x ∷ xs) d (suc i) (suc j) e l h = apart-at alike xs d i j (and-right (not (some (alike x) xs)) (apart alike xs) e) (le-of-suc-le-suc l) (le-of-suc-le-suc h)
 
 module _ (b : Book) (ls : Lists) (deals : List Deal) (sound : good b ≡ true) (accepted : first (expiryRefusals b ls) ≡ 0) (nets : (i : ℕ) → net deals i ≡ positionOf (sectionAt b i)) where
   abbrev ss : List Section
@@ -120,16 +105,14 @@ module _ (b : Book) (ls : Lists) (deals : List Deal) (sound : good b ≡ true) (
   register = Written.written b ls accepted
 
   longs : many (b .held) (λ (i : ℕ). isLong (net deals i) and ltb 0 (entry (register .lists .delivered) i)) ≡ many (length ss) (λ (i : ℕ). isLong (positionOf (sectionOf ss i)) and ltb 0 (entry (delivered ss ns) i))
-  unfolding many
   longs =
       ap (λ (n : ℕ). many n (λ (i : ℕ). isLong (net deals i) and ltb 0 (entry (register .lists .delivered) i))) (sym held)
-      ∙ sum-same _+_ 0 naturals (length ss) _ _ (λ i h. ap₂ (λ (p : ℤ) (n : ℕ). cond {A = ℕ} (isLong p && ltb 0 n) 1 0) (nets i ∙ ap positionOf (sym (section-is i h))) (Written.written-delivered b ls accepted i (omega (arith, h, held))))
+      ∙ many-same (length ss) _ _ (λ i h. ap₂ (λ (p : ℤ) (n : ℕ). isLong p && ltb 0 n) (nets i ∙ ap positionOf (sym (section-is i h))) (Written.written-delivered b ls accepted i (omega (arith, h, held))))
 
   drawns : many (b .filed) (λ (n : ℕ). ltb 0 (drawnLots register n)) ≡ many (length ns) (λ (k : ℕ). ltb 0 (drawnOf k))
-  unfolding many
   drawns =
       ap (λ (n : ℕ). many n (λ (k : ℕ). ltb 0 (drawnLots register k))) (sym filed)
-      ∙ sum-same _+_ 0 naturals (length ns) _ _ (λ k h. ap (λ (n : ℕ). cond {A = ℕ} (ltb 0 n) 1 0) (drawn-lots k h))
+      ∙ many-same (length ns) _ _ (λ k h. ap (ltb 0) (drawn-lots k h))
 
   pub delivers : Delivered deals register
   delivers =

@@ -1,19 +1,20 @@
 -- What an accepted expiry writes into the lists that it is lent, read as lines.
-use Prim.Native.Nat.{ℕ, _+_, _≤_, _<_}
+use Prim.Native.Nat.{ℕ, _+_, _<_}
 use native.Mathlib.Omega.{arith}
-use mathlib.Core.Path.{_≡_, refl, sym, ap, ap₂, _∙_}
+use mathlib.Core.Path.{_≡_, ap, ap₂, _∙_}
 use mathlib.Core.Bool.{Bool, cond, _&&_, _||_}
-use mathlib.Core.List.{List, [], map, map-map}
+use mathlib.Core.List.{List, [], map}
 use lib.Dec.{eqb}
 use lib.IntN.{natAbs}
-use lib.ListN.{length, getD, drop, length-map, List·getD-append}
+use lib.ListN.{length, getD, length-map}
 use lib.Seq.{getD-take}
 use borrow.Author.Tests.{not-false}
-use Rattle.numbers.specs.Lists.{counted, listed, entry, less, over}
+use Rattle.numbers.specs.Lists.{listed, entry, less, over}
 use Rattle.numbers.specs.Sums.{total}
 use Rattle.numbers.proofs.Sums.{naturals}
 use Rattle.numbers.proofs.Changed.{read-at}
-use Rattle.numbers.proofs.Ranges.{listed-length, listed-entries, less-at, sum-same}
+use Rattle.numbers.proofs.Lists.{over-at}
+use Rattle.numbers.proofs.Ranges.{listed-read, less-at, Left, left-all, left-less, sum-same}
 use Rattle.rules.specs.declared.book.Book.{Book}
 use Rattle.rules.specs.declared.book.Section.{Section}
 use Rattle.rules.specs.declared.book.Notice.{Notice}
@@ -30,27 +31,6 @@ use Rattle.book.proofs.Answers.{first-none}
 use Rattle.book.proofs.Good.{Good, facts}
 use Rattle.book.proofs.Held.{held-length}
 use Rattle.delivery.proofs.StageTwo.{lineLots}
-
--- General laws of lists and sums
-
--- entries written over a list's first ones are read there
-over-at : (new list : List ℕ) (i : ℕ) → i < length new → entry (over new list) i ≡ entry new i
-over-at new list i h = List·getD-append new (drop (length new) list) 0 i h
-
--- what is left of a list when some of each entry is taken, once or more often: it is as long, and no entry is larger
-record Left (all left : List ℕ) : Type 0 where
-  pub long : length left ≡ length all
-  pub within : (i : ℕ) → entry left i ≤ entry all i
-
-left-all : (all : List ℕ) → Left all all
-left-all all = record { long = refl; within = λ i. omega arith }
-
-left-less : (all left taken : List ℕ) → Left all left → Left all (less left taken)
-left-less all left taken h = record { long = listed-length (length left) _ ∙ h .long; within = λ i. omega (arith, less-at left taken i, h .within i) }
-
--- a sum of what is read of the entries of a list, by number
-total-read : {A : Type 0} (f : A → ℕ) (xs : List A) (d : A) → total (listed (length xs) (λ (k : ℕ). f (getD xs k d))) ≡ total (map f xs)
-total-read f xs d = ap total (sym (map-map f (λ (k : ℕ). getD xs k d) (counted 0 (length xs))) ∙ ap (map f) (listed-entries xs d))
 
 -- what is delivered of the sections' lots, and what is terminated
 delivered-left : (ss : List Section) (ns : List Notice) → Left (map size ss) (delivered ss ns)
@@ -106,12 +86,12 @@ module _ (b : Book) (ls : Lists) (accepted : first (expiryRefusals b ls) ≡ 0) 
       let blank : Line = record { buyer = 0; elevator = 0; seller = 0; lots = 0 } in
       let lots : Lists → ℕ → ℕ = λ w k. cond (test (entry (w .buyers) k) (entry (w .elevators) k) (entry (w .sellers) k)) (entry (w .lots) k) 0 in
       let at : (read : Line → ℕ) (list : List ℕ) (k : ℕ) → k < length formed → entry (over (map read formed) list) k ≡ read (getD formed k blank) =
-      λ read list k h. over-at (map read formed) list k (omega (arith, length-map formed read, h)) ∙ read-at read formed k blank 0 h
+      λ read list k h. over-at (map read formed) list k 0 (omega (arith, length-map formed read, h)) ∙ read-at read formed k blank 0 h
       in
       ap₂ (λ (n : ℕ) (w : Lists). total (listed n (lots w))) written-lines written-lists
       ∙ sum-same _+_ 0 naturals (length formed) _ _
       (λ k h. rw (at (λ l. l .buyer) (ls .buyers) k h, at (λ l. l .elevator) (ls .elevators) k h, at (λ l. l .seller) (ls .sellers) k h, at (λ l. l .lots) (ls .lots) k h))
-      ∙ total-read (λ (l : Line). cond (test (l .buyer) (l .elevator) (l .seller)) (l .lots) 0) formed blank
+      ∙ ap total (listed-read (λ (l : Line). cond (test (l .buyer) (l .elevator) (l .seller)) (l .lots) 0) formed blank)
 
   -- a section's lots in the register are those of the lines formed that name it
   pub written-section : (i : ℕ) → registerLots written i ≡ lineLots (λ (l : Line). eqb (l .buyer) i || eqb (l .seller) i) formed
@@ -131,7 +111,7 @@ module _ (b : Book) (ls : Lists) (accepted : first (expiryRefusals b ls) ≡ 0) 
       let ss = heldSections b in
       let ns = filedNotices b in
       ap (λ (w : Lists). entry (w .delivered) i) written-lists
-      ∙ over-at (delivered ss ns) (ls .delivered) i (omega (arith, h, sections-held, delivered-left ss ns .long, length-map ss size))
+      ∙ over-at (delivered ss ns) (ls .delivered) i 0 (omega (arith, h, sections-held, delivered-left ss ns .long, length-map ss size))
 
   -- and its terminated lots
   pub written-terminated : (i : ℕ) → i < b .held → entry (written .lists .terminated) i ≡ entry (terminated (heldSections b) (delivered (heldSections b) (filedNotices b))) i
@@ -140,7 +120,7 @@ module _ (b : Book) (ls : Lists) (accepted : first (expiryRefusals b ls) ≡ 0) 
       let ss = heldSections b in
       let kept = delivered ss (filedNotices b) in
       ap (λ (w : Lists). entry (w .terminated) i) written-lists
-      ∙ over-at (terminated ss kept) (ls .terminated) i (omega (arith, h, sections-held, terminated-left ss kept .long, length-map ss size))
+      ∙ over-at (terminated ss kept) (ls .terminated) i 0 (omega (arith, h, sections-held, terminated-left ss kept .long, length-map ss size))
 
   -- which make up the size of its position
   pub made-up : (i : ℕ) → i < b .held → entry (written .lists .delivered) i + entry (written .lists .terminated) i ≡ natAbs (positionOf (sectionAt b i))

@@ -1,4 +1,5 @@
 pub mod Tests
+pub mod Under
 pub mod Lists
 pub mod Changed
 pub mod Whole
@@ -7,4 +8,6 @@ pub mod Bytes
 pub mod Little
 pub mod Cells
 pub mod Ranges
+pub mod Entries
+pub mod Counts
 pub mod Orders

@@ -7,10 +7,11 @@ use native.Mathlib.Omega.{arith}
 use mathlib.Core.Path.{_≡_, refl, sym, ap, _∙_}
 use mathlib.Core.Bool.{Bool, true, false, not}
 use mathlib.Core.List.{List, [], _∷_, _++_, map, map-append, append-assoc}
-use lib.ListN.{length, getD, set, take, drop, drop-of-length-le, length-map, length-append, length-drop}
+use lib.ListN.{length, getD, set, take, drop, drop-of-length-le, length-map, length-append, length-drop, List·getD-append}
 use lib.Seq.{drop-cons, take-suc, set-at, length-take-le, getD-take}
-use Rattle.numbers.specs.Lists.{every, some, apart}
-use Rattle.numbers.proofs.Tests.{and-left, and-right}
+use borrow.Author.Tests.{not-true}
+use Rattle.numbers.specs.Lists.{every, some, apart, over}
+use Rattle.numbers.proofs.Tests.{and-left, and-right, or-left, or-right}
 
 -- xs has x at place i
 pub record Has {A : Type 0} (xs : List A) (i : ℕ) (x : A) : Type 0 where
@@ -81,6 +82,30 @@ every-at p (x ∷ xs) (suc i) d e h = every-at p xs i d (and-right (p x) (every 
 
 pub every-has : {A : Type 0} (p : A → Bool) {xs : List A} {i : ℕ} {x : A} → Has xs i x → every p xs ≡ true → p x ≡ true
 every-has p {xs} {i} here e = rw (here .entry) at (every-at p xs i (here .other) e (here .below))
+
+-- where none passes a test, none of them does
+none-at : {A : Type 0} (p : A → Bool) (xs : List A) (i : ℕ) (d : A) → some p xs ≡ false → i < length xs → p (getD xs i d) ≡ false
+unfolding some
+none-at p [] i d e h = absurd (not-suc-le-zero h)
+none-at p (x ∷ xs) zero d e h = or-left (p x) (some p xs) e
+none-at p (x ∷ xs) (suc i) d e h = none-at p xs i d (or-right (p x) (some p xs) e) (le-of-suc-le-suc h)
+
+-- where no two entries are alike, an entry and a later one are not
+pub apart-at : {A : Type 0} (alike : A → A → Bool) (xs : List A) (d : A) (i j : ℕ) → apart alike xs ≡ true → i < j → j < length xs → alike (getD xs i d) (getD xs j d) ≡ false
+unfolding apart
+apart-at alike [] d i j e l h = absurd (not-suc-le-zero h)
+apart-at alike (x ∷ xs) d i zero e l h = absurd (not-suc-le-zero l)
+apart-at alike (x ∷ xs) d zero (suc j) e l h = none-at (alike x) xs j d (not-true (some (alike x) xs) (and-left (not (some (alike x) xs)) (apart alike xs) e)) (le-of-suc-le-suc h)
+apart-at alike (x ∷ xs) d (suc i) (suc j) e l h = apart-at alike xs d i j (and-right (not (some (alike x) xs)) (apart alike xs) e) (le-of-suc-le-suc l) (le-of-suc-le-suc h)
+
+-- entries written over a list's first ones are read there
+pub over-at : {A : Type 0} (written list : List A) (i : ℕ) (d : A) → i < length written → getD (over written list) i d ≡ getD written i d
+over-at written list i d h = List·getD-append written (drop (length written) list) d i h
+
+-- a list of no entries
+pub empty : {A : Type 0} (xs : List A) → length xs ≡ 0 → xs ≡ []
+empty [] e = refl
+empty (x ∷ xs) e = absurd (omega (arith, e))
 
 -- a loop that writes f of the entries of xs over the entries of ys: after i turns, and one more
 pub written-next : {A B : Type 0} (f : A → B) {xs : List A} {i : ℕ} {x : A} (ys : List B) → Has xs i x → i < length ys → set (map f (take i xs) ++ drop i ys) i (f x) ≡ map f (take (i + 1) xs) ++ drop (i + 1) ys

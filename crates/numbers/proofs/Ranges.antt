@@ -1,21 +1,22 @@
 -- Lists by number: what `listed` holds, and sums over the numbers below n, stated once over what is summed.
 use Prim.Native.Nat.{ℕ, zero, suc, _+_, _-_, _≤_, _<_}
-use native.Mathlib.Nat.{add-zero, zero-add, suc-add, add-suc, not-suc-le-zero, le-of-suc-le-suc}
-use native.Mathlib.Numerals.{add-one}
+use native.Mathlib.Nat.{add-zero, zero-add, not-suc-le-zero, le-of-suc-le-suc}
 use native.Mathlib.Omega.{arith}
 use mathlib.Core.Path.{_≡_, refl, sym, ap, ap₂, _∙_}
 use mathlib.Core.Bool.{Bool, true, false, cond}
-use mathlib.Core.List.{List, [], _∷_, _++_, map, map-append}
-use mathlib.Core.Logic.{_⊎_, inl, inr, ⊎-elim}
-use lib.Dec.{eqb, ltb}
-use lib.ListN.{length, getD, set, length-map}
+use mathlib.Core.List.{List, [], _∷_, _++_, map, map-map, flatMap}
+use mathlib.Core.Logic.{⊎-elim}
+use lib.Dec.{eqb}
+use lib.ListN.{length, getD, set, length-map, List·getD-eq-default}
 use lib.Seq.{getD-set-same, getD-set-other}
-use borrow.Author.Tests.{eqb-true, eq-eqb, ne-eqb}
+use borrow.Author.Tests.{eq-eqb, ne-eqb}
 use Rattle.numbers.specs.Lists.{counted, listed, entry, less}
-use Rattle.numbers.specs.Sums.{gathered, total, many}
-use Rattle.numbers.proofs.Sums.{Addition, naturals, total-append, total-map}
+use lib.IntN.{pos, _+ℤ_, _-ℤ_}
+use Rattle.numbers.specs.Sums.{gathered, total, totalℤ}
+use Rattle.numbers.proofs.Sums.{Addition, naturals, total-last, total-map, total-kept, total-difference, measured}
 use Rattle.numbers.proofs.Changed.{read-at}
 use Rattle.numbers.proofs.Tests.{same-or-not, below-or-not}
+use Rattle.numbers.proofs.Under.{under-within}
 
 -- the numbers from a on, n of them
 pub counted-length : (a n : ℕ) → length (counted a n) ≡ n
@@ -36,9 +37,7 @@ counted-more a (suc n) = ap (λ (ms : List ℕ). a ∷ ms) (counted-more (suc a)
 
 -- past its end a list has nothing
 pub getD-past : {A : Type 0} (xs : List A) (i : ℕ) (d : A) → length xs ≤ i → getD xs i d ≡ d
-getD-past [] i d h = refl
-getD-past (x ∷ xs) zero d h = absurd (not-suc-le-zero h)
-getD-past (x ∷ xs) (suc i) d h = getD-past xs i d (le-of-suc-le-suc h)
+getD-past xs i d h = List·getD-eq-default xs d h
 
 -- the first number and the others
 counted-shift : {A : Type 0} (f : ℕ → A) (a n : ℕ) → map f (counted (suc a) n) ≡ map (λ (i : ℕ). f (suc i)) (counted a n)
@@ -51,6 +50,10 @@ pub listed-entries : {A : Type 0} (xs : List A) (d : A) → listed (length xs) (
 unfolding counted
 listed-entries [] d = refl
 listed-entries {A = A} (x ∷ xs) d = ap (λ (ys : List A). x ∷ ys) (counted-shift (λ (i : ℕ). getD (x ∷ xs) i d) 0 (length xs) ∙ listed-entries xs d)
+
+-- and what is read of them
+pub listed-read : {A B : Type 0} (f : A → B) (xs : List A) (d : A) → listed (length xs) (λ (i : ℕ). f (getD xs i d)) ≡ map f xs
+listed-read f xs d = sym (map-map f (λ (i : ℕ). getD xs i d) (counted 0 (length xs))) ∙ ap (map f) (listed-entries xs d)
 
 module _ {A : Type 0} (n : ℕ) (f : ℕ → A) where
   pub listed-length : length (listed n f) ≡ n
@@ -71,6 +74,24 @@ less-at xs ys i =
     (λ (h : length xs ≤ i). listed-past (length xs) _ i 0 h ∙ omega (arith, getD-past xs i 0 h))
     (below-or-not i (length xs))
 
+-- what is left of a list when some of each entry is taken, once or more often: it is as long, and no entry is larger
+pub record Left (all left : List ℕ) : Type 0 where
+  pub long : length left ≡ length all
+  pub within : (i : ℕ) → entry left i ≤ entry all i
+
+pub left-all : (all : List ℕ) → Left all all
+left-all all = record { long = refl; within = λ i. omega arith }
+
+pub left-less : (all left taken : List ℕ) → Left all left → Left all (less left taken)
+left-less all left taken h = record { long = listed-length (length left) _ ∙ h .long; within = λ i. omega (arith, less-at left taken i, h .within i) }
+
+-- no entry of what is listed under a test is more than what is read there
+pub listed-under : (n : ℕ) (test : ℕ → Bool) (f : ℕ → ℕ) (i : ℕ) → entry (listed n (λ (j : ℕ). cond (test j) (f j) 0)) i ≤ f i
+listed-under n test f i =
+    ⊎-elim (λ (h : i < n). rw (listed-at n (λ (j : ℕ). cond (test j) (f j) 0) i 0 h) (under-within (test i) (f i)))
+    (λ (h : n ≤ i). omega (arith, listed-past n (λ (j : ℕ). cond (test j) (f j) 0) i 0 h))
+    (below-or-not i n)
+
 -- what is read where two numbers are the same, and where they are not
 module _ {A : Type 0} (i j : ℕ) (x y : A) where
   pub chosen-yes : i ≡ j → cond (eqb i j) x y ≡ x
@@ -82,12 +103,10 @@ module _ {A : Type 0} (i j : ℕ) (x y : A) where
 module _ {A : Type 0} (join : A → A → A) (none : A) (add : Addition join none) where
   -- one number more
   pub sum-more : (n : ℕ) (f : ℕ → A) → gathered join none (listed (suc n) f) ≡ join (gathered join none (listed n f)) (f n)
-  unfolding gathered
   sum-more n f =
       ap (λ (ms : List ℕ). gathered join none (map f ms)) (counted-more 0 n)
-      ∙ ap (gathered join none) (map-append f (counted 0 n) ((0 + n) ∷ []))
-      ∙ total-append join none add (map f (counted 0 n)) (f (0 + n) ∷ [])
-      ∙ ap (join (gathered join none (listed n f))) (add .comm (f (0 + n)) none ∙ add .unit (f (0 + n)) ∙ ap f (zero-add n))
+      ∙ total-last join none add f (counted 0 n) (0 + n)
+      ∙ ap (λ (m : ℕ). join (gathered join none (listed n f)) (f m)) (zero-add n)
 
   -- equal at each number
   pub sum-same : (n : ℕ) (f g : ℕ → A) → ((i : ℕ) → i < n → f i ≡ g i) → gathered join none (listed n f) ≡ gathered join none (listed n g)
@@ -131,28 +150,35 @@ module _ {A : Type 0} (join : A → A → A) (none : A) (add : Addition join non
   last-two : (x y z : A) → join (join x y) z ≡ join (join x z) y
   last-two x y z = add .assoc x y z ∙ ap (join x) (add .comm y z) ∙ sym (add .assoc x z y)
 
+  -- of two readings that differ at one number only
+  pub sum-apart : (n : ℕ) (f g : ℕ → A) (j : ℕ) → j < n → ((i : ℕ) → i < n → (i ≡ j → ⊥) → f i ≡ g i) → join (gathered join none (listed n g)) (f j) ≡ join (gathered join none (listed n f)) (g j)
+  sum-apart zero f g j h same = absurd (not-suc-le-zero h)
+  sum-apart (suc n) f g j h same =
+      ap (λ (a : A). join a (f j)) (sum-more n g)
+      ∙ ⊎-elim
+      (λ (e : j ≡ n).
+      ap₂ (λ (a b : A). join (join a b) (f j)) (sym (sum-same n f g (λ i l. same i (omega arith) (λ s. absurd (omega (arith, l, s, e)))))) (ap g (sym e))
+      ∙ last-two (gathered join none (listed n f)) (g j) (f j)
+      ∙ ap (λ (m : ℕ). join (join (gathered join none (listed n f)) (f m)) (g j)) e)
+      (λ (e : j ≡ n → ⊥).
+      ap (λ (b : A). join (join (gathered join none (listed n g)) b) (f j)) (sym (same n (omega arith) (λ s. e (sym s))))
+      ∙ last-two (gathered join none (listed n g)) (f n) (f j)
+      ∙ ap (λ (a : A). join a (f n)) (sum-apart n f g j (omega (arith, h, e)) (λ i l. same i (omega arith)))
+      ∙ last-two (gathered join none (listed n f)) (g j) (f n))
+      (same-or-not j n)
+      ∙ ap (λ (a : A). join a (g j)) (sym (sum-more n f))
+
   -- of what is read of the entries of a list by number, when one of them changes
   pub sum-changed : {B : Type 0} (read : ℕ → B → A) (xs : List B) (d : B) (i : ℕ) (y : B) (n : ℕ) → i < n → n ≤ length xs
       → join (gathered join none (listed n (λ (j : ℕ). read j (getD (set xs i y) j d)))) (read i (getD xs i d)) ≡ join (gathered join none (listed n (λ (j : ℕ). read j (getD xs j d)))) (read i y)
-  unfolding counted gathered
-  sum-changed read xs d i y zero h k = absurd (not-suc-le-zero h)
-  sum-changed {B = B} read xs d i y (suc n) h k =
-      let other : (j : ℕ) → (j ≡ i → ⊥) → read j (getD (set xs i y) j d) ≡ read j (getD xs j d) = λ j e. ap (read j) (getD-set-other xs i j y d e) in
-      ap (λ (a : A). join a (read i (getD xs i d))) (sum-more n (λ (j : ℕ). read j (getD (set xs i y) j d)))
-      ∙ ⊎-elim
-      (λ (e : i ≡ n).
-      ap₂ (λ (a b : A). join (join a b) (read i (getD xs i d)))
-      (sum-same n _ _ (λ j l. other j (λ s. absurd (omega (arith, l, s, e)))))
-      (ap (λ (m : ℕ). read m (getD (set xs i y) m d)) (sym e) ∙ ap (read i) (getD-set-same xs i y d (omega (arith, h, k))))
-      ∙ ap (λ (m : ℕ). join (join (gathered join none (listed n (λ (j : ℕ). read j (getD xs j d)))) (read i y)) (read m (getD xs m d))) e
-      ∙ last-two (gathered join none (listed n (λ (j : ℕ). read j (getD xs j d)))) (read i y) (read n (getD xs n d)))
-      (λ (e : i ≡ n → ⊥).
-      ap (λ (b : A). join (join (gathered join none (listed n (λ (j : ℕ). read j (getD (set xs i y) j d)))) b) (read i (getD xs i d))) (other n (λ s. e (sym s)))
-      ∙ last-two _ (read n (getD xs n d)) (read i (getD xs i d))
-      ∙ ap (λ (a : A). join a (read n (getD xs n d))) (sum-changed read xs d i y n (omega (arith, h, e)) (omega (arith, k)))
-      ∙ last-two _ (read i y) (read n (getD xs n d)))
-      (same-or-not i n)
-      ∙ ap (λ (a : A). join a (read i y)) (sym (sum-more n (λ (j : ℕ). read j (getD xs j d))))
+  sum-changed {B = B} read xs d i y n h k =
+      sum-apart n (λ (j : ℕ). read j (getD xs j d)) (λ (j : ℕ). read j (getD (set xs i y) j d)) i h (λ j l e. ap (read j) (sym (getD-set-other xs i j y d e)))
+      ∙ ap (λ (x : B). join (gathered join none (listed n (λ (j : ℕ). read j (getD xs j d)))) (read i x)) (getD-set-same xs i y d (omega (arith, h, k)))
+
+  -- under a test that does not depend on the number
+  pub sum-under : (n : ℕ) (t : Bool) (f : ℕ → A) → gathered join none (listed n (λ (i : ℕ). cond t (f i) none)) ≡ cond t (gathered join none (listed n f)) none
+  sum-under n true f = refl
+  sum-under n false f = sum-nothing n _ (λ i h. refl)
 
   -- by classes: what is read at each number counts in the class that its key names
   pub sum-classes : (n m : ℕ) (key : ℕ → ℕ) (f : ℕ → A) → ((i : ℕ) → i < n → key i < m)
@@ -180,10 +206,37 @@ sum-part (suc n) f j h =
 pub total-entries : (xs : List ℕ) → total (listed (length xs) (entry xs)) ≡ total xs
 total-entries xs = ap total (listed-entries xs 0)
 
+-- of a list whose length is known
+pub total-long : (xs : List ℕ) (n : ℕ) → length xs ≡ n → total (listed n (entry xs)) ≡ total xs
+total-long xs n long = ap (λ (m : ℕ). total (listed m (entry xs))) (sym long) ∙ total-entries xs
+
 -- where a sum is 0, each of what it sums is
 pub sum-empty : (n : ℕ) (f : ℕ → ℕ) → total (listed n f) ≡ 0 → (i : ℕ) → i < n → f i ≡ 0
 sum-empty n f e i h = omega (arith, e, sum-part n f i h)
 
--- at how many of the numbers below n more than 0 is read
-abbrev pub live : ℕ → (ℕ → ℕ) → ℕ
-live n f = many n (λ (i : ℕ). ltb 0 (f i))
+-- sums of what is read of the entries of a list
+module _ {A : Type 0} (f : A → ℕ) (d : A) (xs : List A) where
+  -- what is read of one entry is at most the sum
+  pub total-part : (i : ℕ) → i < length xs → f (getD xs i d) ≤ total (map f xs)
+  total-part i h = omega (arith, ap total (listed-read f xs d), sum-part (length xs) (λ (j : ℕ). f (getD xs j d)) i h)
+
+  -- where nothing is read of any, the sum is 0
+  pub total-nothing : ((i : ℕ) → i < length xs → f (getD xs i d) ≡ 0) → total (map f xs) ≡ 0
+  total-nothing none = sym (ap total (listed-read f xs d)) ∙ sum-nothing _+_ 0 naturals (length xs) _ none
+
+-- a measure of lists that adds up over an append, of the lists that n entries and one more stand for
+pub measured-last : {A B : Type 0} (measure : List B → ℕ) → measure [] ≡ 0 → ((xs ys : List B) → measure (xs ++ ys) ≡ measure xs + measure ys) → (g : A → List B) (n : ℕ) (f : ℕ → A) (y : A)
+    → measure (flatMap g (listed n f ++ (y ∷ []))) ≡ total (listed n (λ (i : ℕ). measure (g (f i)))) + measure (g y)
+measured-last {A = A} measure none joined g n f y =
+    let m : A → ℕ = λ (x : A). measure (g x) in
+    measured measure none joined g (listed n f ++ (y ∷ []))
+    ∙ total-last _+_ 0 naturals m (listed n f) y
+    ∙ ap (λ (xs : List ℕ). total xs + m y) (map-map m f (counted 0 n))
+
+-- a sum of differences of natural numbers
+pub sum-difference : (n : ℕ) (f g : ℕ → ℕ) → totalℤ (listed n (λ (i : ℕ). pos (f i) -ℤ pos (g i))) ≡ pos (total (listed n f)) -ℤ pos (total (listed n g))
+sum-difference n f g =
+    total-difference (λ (i : ℕ). pos (f i)) (λ (i : ℕ). pos (g i)) (counted 0 n) ∙ ap₂ _-ℤ_ (of-wholes f) (of-wholes g)
+  where
+    of-wholes : (h : ℕ → ℕ) → totalℤ (map (λ (i : ℕ). pos (h i)) (counted 0 n)) ≡ pos (total (listed n h))
+    of-wholes h = sym (ap totalℤ (map-map pos h (counted 0 n))) ∙ total-kept _+_ 0 _+ℤ_ (pos 0) pos refl (λ (x y : ℕ). refl) (listed n h)

@@ -3,13 +3,13 @@ use Prim.Native.Nat.{ℕ, zero, suc, _+_, _*_, _≤_, _<_, _^_, zero-le}
 use native.Mathlib.Nat.{zero-add, add-assoc, add-comm, not-suc-le-zero, le-of-suc-le-suc, mul-le-mul-left}
 use native.Mathlib.Omega.{arith}
 use mathlib.Core.Path.{_≡_, refl, sym, ap, _∙_}
-use mathlib.Core.List.{List, [], _∷_, _++_, map, map-append, map-map}
+use mathlib.Core.List.{List, [], _∷_, _++_, map, map-append, map-map, flatMap}
 use lib.ListN.{length, getD, set, drop, drop-of-length-le, length-map}
 use lib.IntN.{ℤ, pos, negℤ, natAbs, _+ℤ_, _-ℤ_, _*ℤ_, +ℤ-idl, +ℤ-idr, +ℤ-assoc, +ℤ-comm, negℤ-+ℤ, zero-*ℤ}
 use mir.Syntax.{w64}
 use mir.Val.{SFits, toZ, ofZ}
 use mir.Facts.{toZ-ofZ}
-use Rattle.numbers.specs.Sums.{gathered, totalℤ}
+use Rattle.numbers.specs.Sums.{gathered, total, totalℤ}
 use Rattle.numbers.proofs.Lists.{Has, from-here}
 use Rattle.numbers.proofs.Changed.{read-set, read-at}
 use Rattle.numbers.proofs.Whole.{plus, minus, ext, sum, sum-product, size, sfits-size}
@@ -37,6 +37,14 @@ module _ {A : Type 0} (join : A → A → A) (none : A) (add : Addition join non
   total-append [] ys = sym (add .unit _)
   total-append (x ∷ xs) ys = ap (join x) (total-append xs ys) ∙ sym (add .assoc _ _ _)
 
+  -- of what f reads of an append, and of one entry more
+  pub total-joined : {B : Type 0} (f : B → A) (xs ys : List B) → gathered join none (map f (xs ++ ys)) ≡ join (gathered join none (map f xs)) (gathered join none (map f ys))
+  total-joined f xs ys = ap (gathered join none) (map-append f xs ys) ∙ total-append (map f xs) (map f ys)
+
+  pub total-last : {B : Type 0} (f : B → A) (xs : List B) (y : B) → gathered join none (map f (xs ++ (y ∷ []))) ≡ join (gathered join none (map f xs)) (f y)
+  unfolding gathered
+  total-last f xs y = total-joined f xs (y ∷ []) ∙ ap (join (gathered join none (map f xs))) (add .comm (f y) none ∙ add .unit (f y))
+
   -- of a map that adds two readings of each entry
   pub total-map : {B : Type 0} (f g : B → A) (xs : List B) → gathered join none (map (λ (x : B). join (f x) (g x)) xs) ≡ join (gathered join none (map f xs)) (gathered join none (map g xs))
   unfolding gathered
@@ -60,6 +68,18 @@ unfolding gathered
 total-kept join none join′ none′ h e k [] = sym e
 total-kept join none join′ none′ h e k (x ∷ xs) = ap (join′ (h x)) (total-kept join none join′ none′ h e k xs) ∙ sym (k x (gathered join none xs))
 
+-- sums of natural numbers that are read of the entries are ordered as what is read
+pub total-within : {A : Type 0} (f g : A → ℕ) → ((x : A) → f x ≤ g x) → (xs : List A) → total (map f xs) ≤ total (map g xs)
+unfolding gathered
+total-within f g le [] = omega arith
+total-within f g le (x ∷ xs) = omega (arith, le x, total-within f g le xs)
+
+-- a measure of lists that adds up over an append, of the lists that the entries of a list stand for, one after the other
+pub measured : {A B : Type 0} (measure : List B → ℕ) → measure [] ≡ 0 → ((xs ys : List B) → measure (xs ++ ys) ≡ measure xs + measure ys) → (g : A → List B) (xs : List A) → measure (flatMap g xs) ≡ total (map (λ (x : A). measure (g x)) xs)
+unfolding flatMap gathered
+measured measure none joined g [] = none
+measured measure none joined g (x ∷ xs) = joined (g x) (flatMap g xs) ∙ ap (λ (n : ℕ). measure (g x) + n) (measured measure none joined g xs)
+
 -- sums of whole numbers that f reads of the entries
 module _ {A : Type 0} (f : A → ℤ) where
   -- one entry is changed so that z more is read
@@ -73,8 +93,7 @@ module _ {A : Type 0} (f : A → ℤ) where
 
   -- one entry more, of which 0 is read
   pub total-more : (xs : List A) (y : A) → f y ≡ pos 0 → totalℤ (map f (xs ++ (y ∷ []))) ≡ totalℤ (map f xs)
-  unfolding gathered
-  total-more xs y e = rw (map-append f xs (y ∷ []), total-append _+ℤ_ (pos 0) wholes (map f xs) (f y ∷ []), e) (+ℤ-idr _)
+  total-more xs y e = total-last _+ℤ_ (pos 0) wholes f xs y ∙ ap (λ (z : ℤ). totalℤ (map f xs) +ℤ z) e ∙ +ℤ-idr _
 
   -- each is multiplied
   pub total-product : (v : ℕ) (xs : List A) → totalℤ (map (λ (x : A). f x *ℤ pos v) xs) ≡ totalℤ (map f xs) *ℤ pos v

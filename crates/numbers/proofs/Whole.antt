@@ -5,7 +5,8 @@ use native.Mathlib.Nat.{add-zero, zero-add, mul-le-mul}
 use native.Mathlib.Omega.{arith}
 use mathlib.Core.Path.{_≡_, refl, sym, ap, _∙_}
 use mathlib.Core.Bool.{Bool, true, false, not, cond, true≢false}
-use Rattle.numbers.proofs.Tests.{leb-ltb}
+use mathlib.Core.Logic.{_⊎_, inl, inr, ⊎-elim}
+use Rattle.numbers.proofs.Tests.{leb-ltb, ltb-as}
 use lib.Dec.{leb, ltb, leb·suc-suc}
 use lib.IntN.{ℤ, pos, negsuc, negℤ, natAbs, subℕ, _+ℤ_, _-ℤ_, _*ℤ_}
 use lib.Signed.{mag, leZ, ltZ}
@@ -118,6 +119,28 @@ ltZ-sides (pos a) (pos b) = simp add-zero
 ltZ-sides (pos a) (negsuc b) = sym (le-ltb (a + suc b) (0 + 0) (omega arith))
 ltZ-sides (negsuc a) (pos b) = sym (lt-ltb (0 + 0) (b + suc a) (omega arith))
 ltZ-sides (negsuc a) (negsuc b) = sym (simp zero-add (leb·suc-suc (suc b) a))
+
+-- one of the two sides is 0
+one-side : (z : ℤ) → (plus z ≡ 0) ⊎ (minus z ≡ 0)
+one-side (pos n) = inr refl
+one-side (negsuc n) = inl refl
+
+-- a difference of natural numbers: its size, and its sign
+module _ (x y : ℕ) where
+  pub difference-size : natAbs (pos x -ℤ pos y) ≡ (x - y) + (y - x)
+  difference-size =
+      let z = pos x -ℤ pos y in
+      ⊎-elim (λ e. omega (arith, size z, difference (pos x) (pos y), e)) (λ e. omega (arith, size z, difference (pos x) (pos y), e)) (one-side z)
+
+  pub difference-above : ltZ (pos 0) (pos x -ℤ pos y) ≡ ltb y x
+  difference-above =
+      let z = pos x -ℤ pos y in
+      ltZ-sides (pos 0) z ∙ ltb-as (0 + minus z) (plus z + 0) y x (λ h. omega (arith, difference (pos x) (pos y), h)) (λ h. omega (arith, difference (pos x) (pos y), h))
+
+  pub difference-below : ltZ (pos x -ℤ pos y) (pos 0) ≡ ltb x y
+  difference-below =
+      let z = pos x -ℤ pos y in
+      ltZ-sides z (pos 0) ∙ ltb-as (plus z + 0) (0 + minus z) x y (λ h. omega (arith, difference (pos x) (pos y), h)) (λ h. omega (arith, difference (pos x) (pos y), h))
 
 -- which case of ℤ a number is, by the machine's test against 0
 pub negative : (z : ℤ) → ltZ z (pos 0) ≡ true → (n : ℕ) × (z ≡ negsuc n)
