@@ -1,12 +1,16 @@
 // The place of most lots, among equal ones by the paper's keys.
 ghost use mathlib.Core.Path.{_≡_};
 ghost use mathlib.Core.Bool.{true};
+ghost use mathlib.Core.List.{map};
 ghost use Prim.Native.Nat.{ℕ, _≤_, _<_};
 ghost use lib.Dec.{ltb};
 ghost use lib.ListN.{length};
 ghost use Rattle.numbers.specs.Lists.{entry, largest};
 ghost use Rattle.rules.specs.Book.{good, heldSections, filedNotices, noticeOf};
 ghost use Rattle.rules.specs.Expiry;
+ghost use Rattle.rules.specs.Expiry.Passes;
+ghost use Rattle.stages.specs.Pairs.{pairsIn};
+use crate::offers;
 use orders::sections;
 use rules::book::Book;
 
@@ -49,25 +53,62 @@ pub fn elevator(lots: &[u64]) -> usize
     best
 }
 
-// The notice with most lots; ties: lower seller section code.
-pub fn notice(b: Book, lots: &[u64]) -> usize
-    requires { ⌜ (good b ≡ true) × (length (now lots) ≡ b .filed) ⌝ }
-    ensures { λ r. ⌜ r ≡ largest (λ (i j : ℕ). Expiry.lowerCode (heldSections b) (noticeOf (filedNotices b) i .section) (noticeOf (filedNotices b) j .section)) (now (lots .entry)) ⌝ }
+// The notice with most lots at an elevator; ties: lower seller section code.
+pub fn notice(b: Book, drawn: &[u64], elevator: usize) -> usize
+    requires { ⌜ (good b ≡ true) × (length (now drawn) ≡ b .filed) ⌝ }
+    ensures { λ r. ⌜ r ≡ largest (λ (i j : ℕ). Expiry.lowerCode (heldSections b) (noticeOf (filedNotices b) i .section) (noticeOf (filedNotices b) j .section)) (Passes.offers (filedNotices b) (now (drawn .entry)) elevator) ⌝ }
 {
-    let all = lots.len();
+    let all = b.filed;
     let mut best = 0;
     let mut i = 0;
     while i < all {
-        let most = lots[best];
-        let own = lots[i];
+        let most = offers::offer(b, drawn, elevator, best);
+        let own = offers::offer(b, drawn, elevator, i);
         if most < own {
             best = i;
         } else if most == own {
             let n = b.notices[i];
             let m = b.notices[best];
             let its = n.section as usize;
-            let held = m.section as usize;
-            if sections::lower_code(b, its, held) {
+            let other = m.section as usize;
+            if sections::lower_code(b, its, other) {
+                best = i;
+            }
+        }
+        i += 1;
+    }
+    best
+}
+
+// Whether pair i comes before pair j among equal ones: lower buyer section code, then lower elevator.
+fn earlier_pair(b: Book, buyers: &[usize], elevators: &[usize], i: usize, j: usize) -> bool
+    requires { ⌜ (good b ≡ true) × (i < length (now buyers)) × (j < length (now buyers)) × (i < length (now elevators)) × (j < length (now elevators)) ⌝ }
+    requires { ⌜ (entry (now buyers) i < b .held) × (entry (now buyers) j < b .held) ⌝ }
+    ensures { λ r. ⌜ r ≡ Passes.earlierPair (heldSections b) (record { buyer = entry (now (buyers .entry)) i; elevator = entry (now (elevators .entry)) i; lots = 0 }) (record { buyer = entry (now (buyers .entry)) j; elevator = entry (now (elevators .entry)) j; lots = 0 }) ⌝ }
+{
+    let mine = buyers[i];
+    let its = buyers[j];
+    if mine == its {
+        return elevators[i] < elevators[j];
+    }
+    sections::lower_code(b, mine, its)
+}
+
+// The pair with most lots, of the first `count`; ties: lower buyer section code, then lower elevator.
+pub fn pair(b: Book, buyers: &[usize], elevators: &[usize], lots: &[u64], count: usize) -> usize
+    requires { ⌜ (good b ≡ true) × (count ≤ 160) × (length (now buyers) ≡ 160) × (length (now elevators) ≡ 160) × (length (now lots) ≡ 160) ⌝ }
+    requires { ⌜ ((k : ℕ) → k < count → entry (now buyers) k < b .held) ⌝ }
+    ensures { λ r. ⌜ r ≡ largest (λ (i j : ℕ). Passes.earlierPair (heldSections b) (Passes.pairOf (pairsIn (now (buyers .entry)) (now (elevators .entry)) (now (lots .entry)) count) i) (Passes.pairOf (pairsIn (now (buyers .entry)) (now (elevators .entry)) (now (lots .entry)) count) j)) (map (λ (q : Passes.Pair). q .lots) (pairsIn (now (buyers .entry)) (now (elevators .entry)) (now (lots .entry)) count)) ⌝ }
+{
+    let mut best = 0;
+    let mut i = 0;
+    while i < count {
+        let most = lots[best];
+        let own = lots[i];
+        if most < own {
+            best = i;
+        } else if most == own {
+            if earlier_pair(b, buyers, elevators, i, best) {
                 best = i;
             }
         }

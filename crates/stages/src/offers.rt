@@ -1,0 +1,51 @@
+// What is drawn of the notices at an elevator.
+ghost use mathlib.Core.Path.{_≡_};
+ghost use mathlib.Core.Bool.{true};
+ghost use Prim.Native.Nat.{ℕ, _≤_, _<_};
+ghost use lib.ListN.{length};
+ghost use Rattle.numbers.specs.Lists.{entry};
+ghost use Rattle.numbers.specs.Sums.{total};
+ghost use Rattle.rules.specs.Book.{good, filedNotices};
+ghost use Rattle.rules.specs.Expiry.Passes;
+use rules::book::Book;
+
+// What is drawn of notice k if it stands at the elevator, else 0.
+pub fn offer(b: Book, drawn: &[u64], elevator: usize, k: usize) -> u64
+    requires { ⌜ (good b ≡ true) × (length (now drawn) ≡ b .filed) × (k < b .filed) ⌝ }
+    ensures { λ r. ⌜ r ≡ entry (Passes.offers (filedNotices b) (now (drawn .entry)) elevator) k ⌝ }
+{
+    let n = b.notices[k];
+    let stands = n.elevator as usize;
+    if stands == elevator {
+        return drawn[k];
+    }
+    0
+}
+
+// The sum at an elevator.
+fn offered(b: Book, drawn: &[u64], elevator: usize) -> u64
+    requires { ⌜ (good b ≡ true) × (length (now drawn) ≡ b .filed) × ((k : ℕ) → entry (now drawn) k ≤ 1_000_000) ⌝ }
+    ensures { λ r. ⌜ r ≡ total (Passes.offers (filedNotices b) (now (drawn .entry)) elevator) ⌝ }
+{
+    let filed = b.filed;
+    let mut sum = 0;
+    let mut k = 0;
+    while k < filed {
+        sum += offer(b, drawn, elevator, k);
+        k += 1;
+    }
+    sum
+}
+
+// The sum at each elevator.
+pub fn elevator_lots(b: Book, drawn: &[u64], out: &mut [u64])
+    requires { ⌜ (good b ≡ true) × (length (now drawn) ≡ b .filed) × ((k : ℕ) → entry (now drawn) k ≤ 1_000_000) ⌝ }
+    requires { ⌜ length (now out) ≡ 32 ⌝ }
+    ensures { λ _. ⌜ now (out .exit) ≡ Passes.elevatorLots (filedNotices b) (now (drawn .entry)) ⌝ }
+{
+    let mut e = 0;
+    while e < 32 {
+        out[e] = offered(b, drawn, e);
+        e += 1;
+    }
+}
