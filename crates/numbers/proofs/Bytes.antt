@@ -89,3 +89,19 @@ module _ {xs ys : List ℕ} {i x y : ℕ} (h : Has xs i x) (k : Has ys i y) wher
   pub same-stop : (x ≡ y → ⊥) → same (drop i xs) (drop i ys) ≡ false
   unfolding same
   same-stop e = rw (from-here h, from-here k, ne-eqb x y e)
+
+  pub before-next : x ≡ y → before (drop i xs) (drop i ys) ≡ before (drop (i + 1) xs) (drop (i + 1) ys)
+  unfolding before
+  before-next e = rw (from-here h, from-here k, le-ltb x y (omega (arith, e)), eq-eqb x y e)
+
+  pub before-lower : x < y → before (drop i xs) (drop i ys) ≡ true
+  unfolding before
+  before-lower e = rw (from-here h, from-here k, lt-ltb x y e)
+
+  pub before-higher : y < x → before (drop i xs) (drop i ys) ≡ false
+  unfolding before
+  before-higher e = rw (from-here h, from-here k, le-ltb x y (omega (arith, e)), ne-eqb x y (λ s. absurd (omega (arith, e, s))))
+
+pub before-end : (xs ys : List ℕ) (i : ℕ) → length xs ≤ i → before (drop i xs) ys ≡ false
+unfolding before
+before-end xs ys i h = rw (drop-of-length-le xs h)
