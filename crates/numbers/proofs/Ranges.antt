@@ -5,11 +5,11 @@ use native.Mathlib.Numerals.{add-one}
 use native.Mathlib.Omega.{arith}
 use mathlib.Core.Path.{_≡_, refl, sym, ap, ap₂, _∙_}
 use mathlib.Core.Bool.{Bool, true, false, cond}
-use mathlib.Core.List.{List, [], _∷_, _++_, map, map-append}
+use mathlib.Core.List.{List, [], _∷_, _++_, map, map-append, map-map, append-assoc, append-nil}
 use mathlib.Core.Logic.{_⊎_, inl, inr, ⊎-elim}
 use lib.Dec.{eqb, ltb}
-use lib.ListN.{length, getD, set, length-map}
-use lib.Seq.{getD-set-same, getD-set-other}
+use lib.ListN.{length, getD, set, drop, length-map, length-append, length-drop, drop-of-length-le}
+use lib.Seq.{getD-set-same, getD-set-other, drop-cons, set-at}
 use borrow.Author.Tests.{eqb-true, eq-eqb, ne-eqb}
 use Rattle.numbers.specs.Lists.{counted, listed, entry, less}
 use Rattle.numbers.specs.Sums.{gathered, total, many}
@@ -51,6 +51,9 @@ pub listed-entries : {A : Type 0} (xs : List A) (d : A) → listed (length xs) (
 unfolding counted
 listed-entries [] d = refl
 listed-entries {A = A} (x ∷ xs) d = ap (λ (ys : List A). x ∷ ys) (counted-shift (λ (i : ℕ). getD (x ∷ xs) i d) 0 (length xs) ∙ listed-entries xs d)
+
+pub listed-read : {A B : Type 0} (f : A → B) (xs : List A) (d : A) → listed (length xs) (λ (i : ℕ). f (getD xs i d)) ≡ map f xs
+listed-read f xs d = sym (map-map f (λ (i : ℕ). getD xs i d) (counted 0 (length xs))) ∙ ap (map f) (listed-entries xs d)
 
 module _ {A : Type 0} (n : ℕ) (f : ℕ → A) where
   pub listed-length : length (listed n f) ≡ n
@@ -187,3 +190,32 @@ sum-empty n f e i h = omega (arith, e, sum-part n f i h)
 -- at how many of the numbers below n more than 0 is read
 abbrev pub live : ℕ → (ℕ → ℕ) → ℕ
 live n f = many n (λ (i : ℕ). ltb 0 (f i))
+
+-- a loop that fills a list by number: after i turns the entries below i are those of f, and the others are as they were
+pub listed-next : {A : Type 0} (f : ℕ → A) (ys : List A) (i : ℕ) → i < length ys → set (listed i f ++ drop i ys) i (f i) ≡ listed (i + 1) f ++ drop (i + 1) ys
+listed-next {A = A} f ys i h =
+    ap (λ (zs : List A). set (listed i f ++ zs) i (f i)) (drop-cons ys i (f i) h)
+    ∙ set-at (listed i f) _ (drop (suc i) ys) (f i) i (listed-length i f)
+    ∙ rw (add-one, counted-more, map-append, append-assoc, zero-add)
+
+pub record Filled {A : Type 0} (f : ℕ → A) (ys zs : List A) (i : ℕ) : Type 0 where
+  pub within : i ≤ length ys
+  pub entries : zs ≡ listed i f ++ drop i ys
+
+pub filled-none : {A : Type 0} (f : ℕ → A) (ys : List A) → Filled f ys ys 0
+unfolding counted
+filled-none f ys = record { within = omega arith; entries = refl }
+
+module _ {A : Type 0} {f : ℕ → A} {ys zs : List A} {i : ℕ} (filled : Filled f ys zs i) where
+  pub filled-length : length zs ≡ length ys
+  filled-length = ap length (filled .entries) ∙ simp (length-append, listed-length, length-drop) (omega (arith, filled .within))
+
+  pub filled-next : i < length ys → (x : A) → x ≡ f i → Filled f ys (set zs i x) (i + 1)
+  filled-next h x e = record { within = omega (arith, h); entries = ap₂ (λ (l : List A) (y : A). set l i y) (filled .entries) e ∙ listed-next f ys i h }
+
+  pub filled-end : length ys ≤ i → (n : ℕ) → length ys ≡ n → zs ≡ listed n f
+  filled-end past n e =
+      filled .entries
+      ∙ ap (λ (l : List A). listed i f ++ l) (drop-of-length-le ys past)
+      ∙ append-nil (listed i f)
+      ∙ ap (λ (m : ℕ). listed m f) (omega (arith, past, e, filled .within))
