@@ -1,14 +1,14 @@
--- What a good book says of a notice filed, and a section's notices one after the other.
-use Prim.Native.Nat.{ℕ, _+_, _≤_, _<_}
-use native.Mathlib.Nat.{add-zero}
+-- What the method's definitions say of a good book: of a section held, of a notice filed, and of sums over them, one after the other.
+use Prim.Native.Nat.{ℕ, _+_, _-_, min, max, _≤_, _<_}
+use native.Mathlib.Nat.{add-zero, le-of-lt}
 use native.Mathlib.Numerals.{add-one}
 use native.Mathlib.Omega.{arith}
-use mathlib.Core.Path.{_≡_, refl, sym, ap, _∙_}
+use mathlib.Core.Path.{_≡_, refl, sym, ap, ap₂, _∙_}
 use mathlib.Core.Bool.{Bool, true, false, not, cond, _||_, false≢true}
 use mathlib.Core.List.{List, [], _∷_, _++_, map, map-append}
 use lib.Dec.{eqb, leb, ltb}
 use lib.ListN.{length, take}
-use lib.Seq.{take-suc, getD-take}
+use lib.Seq.{take-suc, take-take, getD-take}
 use lib.IntN.{ℤ, pos, negsuc, negℤ, natAbs, _+ℤ_}
 use lib.Signed.{leZ}
 use borrow.Author.Tests.{ltb-true, leb-true}
@@ -17,7 +17,7 @@ use Rattle.numbers.specs.Sums.{gathered, total, totalℤ}
 use Rattle.numbers.proofs.Tests.{both}
 use Rattle.numbers.proofs.Lists.{every-has}
 use Rattle.numbers.proofs.Sums.{naturals, wholes, total-append}
-use Rattle.numbers.proofs.Ranges.{sum-more}
+use Rattle.numbers.proofs.Ranges.{sum-more, listed-length, listed-at}
 use Rattle.numbers.proofs.Whole.{size, negated}
 use Rattle.rules.specs.declared.book.Book.{Book}
 use Rattle.rules.specs.declared.book.Section.{Section}
@@ -26,8 +26,9 @@ use Rattle.rules.specs.Book.{heldSections, filedNotices, sectionAt, sectionOf, 
 use Rattle.rules.specs.Expiry
 use Rattle.rules.specs.Expiry.{isShort, onSideOf, netOfCode}
 use Rattle.rules.specs.Expiry.Failing.{noticed, fails}
+use Rattle.rules.specs.Expiry.Drawing.{drawn}
 use Rattle.book.proofs.Good.{Good}
-use Rattle.book.proofs.Held.{has-notice}
+use Rattle.book.proofs.Held.{has-notice, filed-length}
 
 -- a section held, by number
 pub held-at : (b : Book) (i : ℕ) → i < b .held → sectionOf (heldSections b) i ≡ sectionAt b i
@@ -120,3 +121,27 @@ noticed-more ns n i =
 
 pub noticed-next : (ns : List Notice) (i k : ℕ) → k < length ns → noticed (take (k + 1) ns) i ≡ noticed (take k ns) i + counts i (noticeOf ns k)
 noticed-next ns i k h = rw add-one (ap (λ (l : List Notice). noticed l i) (take-suc ns k blankNotice h) ∙ noticed-more (take k ns) (noticeOf ns k) i)
+
+-- a notice filed, by number
+filed-at : (b : Book) (k : ℕ) → k < b .filed → noticeOf (filedNotices b) k ≡ noticeAt b k
+filed-at b k h = getD-take (b .filed) (b .notices) k blankNotice h
+
+-- what is drawn of a notice: of which section it is, and which notices came earlier
+abbrev pub piece : List ℕ → List ℕ → Section → List Notice → Notice → ℕ
+piece from upto s earlier n =
+    cond (isShort (positionOf s)) (min (noticed earlier (n .section) + natAbs (n .lots .0)) (entry upto (n .section)) - max (noticed earlier (n .section)) (entry from (n .section))) 0
+
+module _ (b : Book) (book : Good b) (from upto : List ℕ) where
+  pub drawn-length : length (drawn (heldSections b) (filedNotices b) from upto) ≡ b .filed
+  unfolding drawn
+  drawn-length = listed-length (length (filedNotices b)) _ ∙ filed-length b (book .notice-places) (book .filed)
+
+  pub drawn-at : (k : ℕ) → k < b .filed
+      → entry (drawn (heldSections b) (filedNotices b) from upto) k ≡ piece from upto (sectionAt b (noticeAt b k .section)) (take k (b .notices)) (noticeAt b k)
+  unfolding drawn
+  drawn-at k h =
+      listed-at (length (filedNotices b)) _ k 0 (omega (arith, h, filed-length b (book .notice-places) (book .filed)))
+      ∙ ap (λ (n : Notice). piece from upto (sectionOf (heldSections b) (n .section)) (take k (filedNotices b)) n) (filed-at b k h)
+      ∙ ap₂ (λ (s : Section) (earlier : List Notice). piece from upto s earlier (noticeAt b k))
+      (held-at b (noticeAt b k .section) (filed-good b book k h .section))
+      (take-take k (b .filed) (b .notices) (le-of-lt h))

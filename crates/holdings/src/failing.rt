@@ -39,8 +39,8 @@ pub fn sizes(b: Book, lots: &mut [u64])
     let mut i = 0;
     while i < held {
         let s = b.sections[i];
-        let position = s.position.0;
-        lots[i] = signed::size(position);
+        let own = s.position.0;
+        lots[i] = signed::size(own);
         i += 1;
     }
 }
@@ -64,9 +64,9 @@ pub fn failing(b: Book, lots: &mut [u64])
     ensures { λ _. ⌜ now (lots .exit) ≡ Failing.failing (heldSections b) (filedNotices b) ⌝ }
 {
     let held = b.held;
-    let mut i = 0;
-    while i < held {
-        lots[i] = failed(b, i);
-        i += 1;
+    let mut at = 0;
+    while at < held {
+        lots[at] = failed(b, at);
+        at += 1;
     }
 }

@@ -16,18 +16,18 @@ use Rattle.holdings.proofs.failing.failing.Statement.{statement}
 use Rattle.holdings.proofs.failing.failing.Tie as tie
 
 abbrev Inv-loop : tie.InvT-loop
-Inv-loop b lots₀ held i₀ lots i = Filled (λ (j : ℕ). cond (fails (heldSections b) (filedNotices b) j) (size (sectionOf (heldSections b) j)) 0) lots₀ lots i
+Inv-loop b lots₀ held at₀ lots at = Filled (λ (j : ℕ). cond (fails (heldSections b) (filedNotices b) j) (size (sectionOf (heldSections b) j)) 0) lots₀ lots at
 
 abbrev μ-loop : tie.MeasureT-loop
-μ-loop b lots₀ held i₀ lots i = held - i
+μ-loop b lots₀ held at₀ lots at = held - at
 
 book : (c : tie.Start Inv-loop μ-loop) → Good (c .args .b)
 book c = facts _ (c .pre .0)
 
-room : (c : tie.In-loop Inv-loop μ-loop) → c .before .loop .i < length (c .before .before .before .args .lots .now)
+room : (c : tie.In-loop Inv-loop μ-loop) → c .before .loop .at < length (c .before .before .before .args .lots .now)
 room c = omega (arith, c .loop-test .taken, c .before .before .before .pre .1)
 
-place : (c : tie.In-loop Inv-loop μ-loop) → c .before .loop .i < 128
+place : (c : tie.In-loop Inv-loop μ-loop) → c .before .loop .at < 128
 place c = omega (arith, c .loop-test .taken, book (c .before .before .before) .held)
 
 loop-holds : tie.Need-loop-holds Inv-loop μ-loop
@@ -42,18 +42,18 @@ mul-lots c = omega (arith, place (c .before))
 slice-write-lots : tie.Need-slice-write-lots Inv-loop μ-loop
 slice-write-lots c = omega (arith, room (c .before), filled-length (c .before .before .loop .inv))
 
-add-i : tie.Need-add-i Inv-loop μ-loop
-add-i c = omega (arith, place (c .before))
+add-at : tie.Need-add-at Inv-loop μ-loop
+add-at c = omega (arith, place (c .before))
 
 loop-less : tie.Need-loop-less Inv-loop μ-loop
 loop-less c = omega arith
 
 loop-again : tie.Need-loop-again Inv-loop μ-loop
 loop-again c =
-    let at = c .before .before in
-    let b = at .before .before .args .b in
-    filled-next (at .loop .inv) (room (c .before)) (c .failed .result)
-    (c .failed .ensures ∙ ap (λ (s : Section). cond (fails (heldSections b) (filedNotices b) (at .loop .i)) (size s) 0) (sym (held-at b (at .loop .i) (c .before .loop-test .taken))))
+    let here = c .before .before in
+    let b = here .before .before .args .b in
+    filled-next (here .loop .inv) (room (c .before)) (c .failed .result)
+    (c .failed .ensures ∙ ap (λ (s : Section). cond (fails (heldSections b) (filedNotices b) (here .loop .at)) (size s) 0) (sym (held-at b (here .loop .at) (c .before .loop-test .taken))))
 
 same-length : tie.Need-same-length Inv-loop μ-loop
 same-length c = filled-length (c .before .loop .inv)
@@ -76,7 +76,7 @@ failing-spec =
     failed-requires
     mul-lots
     slice-write-lots
-    add-i
+    add-at
     loop-less
     loop-again
     same-length
