@@ -1,10 +1,10 @@
 // Step 1: who fails.
 ghost use mathlib.Core.Path.{_≡_};
-ghost use mathlib.Core.Bool.{true};
+ghost use mathlib.Core.Bool.{true, cond};
 ghost use mathlib.Core.List.{map};
 ghost use Prim.Native.Nat.{_<_};
 ghost use lib.ListN.{length};
-ghost use Rattle.rules.specs.Book.{good, heldSections, filedNotices};
+ghost use Rattle.rules.specs.Book.{good, sectionAt, heldSections, filedNotices};
 ghost use Rattle.rules.specs.Expiry;
 ghost use Rattle.rules.specs.Expiry.Failing;
 use crate::notices;
@@ -39,10 +39,23 @@ pub fn sizes(b: Book, lots: &mut [u64])
     let mut i = 0;
     while i < held {
         let s = b.sections[i];
-        let position = s.position.0;
-        lots[i] = signed::size(position);
+        let own = s.position.0;
+        lots[i] = signed::size(own);
         i += 1;
     }
+}
+
+// The lots of section i where it fails, and 0 where it is sound.
+fn failed(b: Book, i: usize) -> u64
+    requires { ⌜ (good b ≡ true) × (i < b .held) ⌝ }
+    ensures { λ r. ⌜ r ≡ cond (Failing.fails (heldSections b) (filedNotices b) i) (Expiry.size (sectionAt b i)) 0 ⌝ }
+{
+    if !fails(b, i) {
+        return 0;
+    }
+    let s = b.sections[i];
+    let position = s.position.0;
+    signed::size(position)
 }
 
 // The lots of the failing sections, and 0 for the sound.
@@ -51,15 +64,9 @@ pub fn failing(b: Book, lots: &mut [u64])
     ensures { λ _. ⌜ now (lots .exit) ≡ Failing.failing (heldSections b) (filedNotices b) ⌝ }
 {
     let held = b.held;
-    let mut i = 0;
-    while i < held {
-        let s = b.sections[i];
-        let position = s.position.0;
-        if fails(b, i) {
-            lots[i] = signed::size(position);
-        } else {
-            lots[i] = 0;
-        }
-        i += 1;
+    let mut at = 0;
+    while at < held {
+        lots[at] = failed(b, at);
+        at += 1;
     }
 }

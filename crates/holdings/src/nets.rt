@@ -1,12 +1,32 @@
 // The net of a code's lots.
 ghost use mathlib.Core.Path.{_≡_};
-ghost use mathlib.Core.Bool.{true};
+ghost use mathlib.Core.Bool.{true, cond};
 ghost use Prim.Native.Nat.{ℕ, _≤_};
+ghost use lib.Dec.{eqb};
+ghost use lib.IntN.{pos};
 ghost use lib.ListN.{length};
 ghost use Rattle.numbers.specs.Lists.{entry, listed};
-ghost use Rattle.rules.specs.Book.{good, heldSections};
+ghost use Rattle.rules.specs.Book.{good, heldSections, positionOf};
 ghost use Rattle.rules.specs.Expiry;
 use rules::book::Book;
+use rules::book::Section;
+use value::signed;
+
+// What a section's lots add to the net of a code.
+fn adding(s: Section, own: u64, code: u8) -> i64
+    requires { ⌜ own ≤ 1_000_000 ⌝ }
+    ensures { λ r. ⌜ r ≡ cond (eqb (s .settlement) code) (Expiry.onSideOf (positionOf s) own) (pos 0) ⌝ }
+{
+    if s.settlement != code {
+        return 0;
+    }
+    let lots = own as i64;
+    let position = s.position.0;
+    if position < 0 {
+        return signed::difference(0, lots);
+    }
+    lots
+}
 
 // The net of the lots of a code's sections.
 pub fn net_of_code(b: Book, lots: &[u64], code: u8) -> i64
@@ -14,19 +34,12 @@ pub fn net_of_code(b: Book, lots: &[u64], code: u8) -> i64
     ensures { λ r. ⌜ r ≡ Expiry.netOfCode (heldSections b) (now (lots .entry)) code ⌝ }
 {
     let held = b.held;
-    let mut net = 0;
+    let mut net: i64 = 0;
     let mut i = 0;
     while i < held {
         let s = b.sections[i];
-        if s.settlement == code {
-            let position = s.position.0;
-            let own = lots[i] as i64;
-            if 0 <= position {
-                net += own;
-            } else {
-                net -= own;
-            }
-        }
+        let own = lots[i];
+        net = signed::sum(net, adding(s, own, code));
         i += 1;
     }
     net

@@ -1,14 +1,26 @@
 // The notices of a section, laid end to end.
 ghost use mathlib.Core.Path.{_≡_};
-ghost use mathlib.Core.Bool.{true};
+ghost use mathlib.Core.Bool.{true, cond};
 ghost use Prim.Native.Nat.{_≤_};
-ghost use lib.ListN.{length, take};
-ghost use Rattle.numbers.specs.Lists.{entry};
-ghost use Rattle.rules.specs.Book.{good, heldSections, filedNotices};
+ghost use lib.Dec.{eqb};
+ghost use lib.IntN.{natAbs};
+ghost use lib.ListN.{take};
+ghost use Rattle.rules.specs.Book.{good};
 ghost use Rattle.rules.specs.Expiry.Failing;
-ghost use Rattle.rules.specs.Expiry.Drawing;
 use rules::book::Book;
+use rules::book::Notice;
 use value::signed;
+
+// The lots of a notice that count for a section.
+fn counting(n: Notice, section: u8) -> u64
+    ensures { λ r. ⌜ r ≡ cond (eqb (n .section) section) (natAbs (n .lots .0)) 0 ⌝ }
+{
+    if n.section != section {
+        return 0;
+    }
+    let lots = n.lots.0;
+    signed::size(lots)
+}
 
 // The lots of a section's notices among the first `upto`.
 pub fn noticed(b: Book, upto: usize, section: u8) -> u64
@@ -20,10 +32,7 @@ pub fn noticed(b: Book, upto: usize, section: u8) -> u64
     let mut k = 0;
     while k < upto {
         let n = b.notices[k];
-        if n.section == section {
-            let lots = n.lots.0;
-            sum += signed::size(lots);
-        }
+        sum += counting(n, section);
         k += 1;
     }
     sum

@@ -11,3 +11,4 @@ pub mod Ranges
 pub mod Entries
 pub mod Counts
 pub mod Orders
+pub mod Filled
