@@ -50,25 +50,29 @@ module _ {A : Type 0} (f : ℕ → A) (was : List A) where
   filled-end i h = ap (λ (rest : List A). listed i f ++ rest) (drop-of-length-le was h) ∙ append-nil (listed i f)
 
 -- the lots of the sections held that pass a test, and 0 for the others
-module _ (b : Book) (test : Section → Bool) (lots was : List ℕ) where
-  abbrev pub lotsChosen : ℕ → ℕ
+module _ (b : Book) (test : Section → Bool) (lots : List ℕ) where
+  abbrev lotsChosen : ℕ → ℕ
   lotsChosen i = cond (test (sectionOf (heldSections b) i)) (entry lots i) 0
 
-  abbrev pub chosenSoFar : ℕ → List ℕ
-  chosenSoFar = filled lotsChosen was
+  -- after i sections
+  abbrev pub chosenSoFar : List ℕ → ℕ → List ℕ
+  chosenSoFar = filled lotsChosen
 
-  module _ (h : good b ≡ true) (places : length was ≡ b .held) where
+  pub chosen-start : (was : List ℕ) → was ≡ chosenSoFar was 0
+  chosen-start = filled-start lotsChosen
+
+  module _ (was : List ℕ) (places : length was ≡ b .held) where
     -- one section more
-    pub chosen-next : (i n : ℕ) → i < b .held → n ≡ cond (test (sectionAt b i)) (entry lots i) 0 → set (chosenSoFar i) i n ≡ chosenSoFar (i + 1)
+    pub chosen-next : (i n : ℕ) → i < b .held → n ≡ cond (test (sectionAt b i)) (entry lots i) 0 → set (chosenSoFar was i) i n ≡ chosenSoFar was (i + 1)
     chosen-next i n below e =
-        ap (set (chosenSoFar i) i) (e ∙ ap (λ (s : Section). cond (test s) (entry lots i) 0) (sym (getD-take (b .held) (b .sections) i (sectionOfNoughts []) below)))
+        ap (set (chosenSoFar was i) i) (e ∙ ap (λ (s : Section). cond (test s) (entry lots i) 0) (sym (getD-take (b .held) (b .sections) i (sectionOfNoughts []) below)))
         ∙ filled-next lotsChosen was i (omega (arith, places, below))
 
-    pub chosen-length : (i : ℕ) → i ≤ b .held → length (chosenSoFar i) ≡ length was
+    pub chosen-length : (i : ℕ) → i ≤ b .held → length (chosenSoFar was i) ≡ length was
     chosen-length i below = filled-length lotsChosen was i (omega (arith, places, below))
 
     -- all sections held
-    pub chosen-end : (i : ℕ) → i ≡ b .held → chosenSoFar i ≡ chosen (heldSections b) test lots
-    chosen-end i all =
+    pub chosen-end : good b ≡ true → (i : ℕ) → i ≡ b .held → chosenSoFar was i ≡ chosen (heldSections b) test lots
+    chosen-end h i all =
         filled-end lotsChosen was i (omega (arith, places, all))
         ∙ ap (λ (n : ℕ). listed n lotsChosen) (all ∙ sym (held-length b (facts b h .section-places) (facts b h .held)))

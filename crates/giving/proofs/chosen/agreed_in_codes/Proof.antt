@@ -17,7 +17,7 @@ use Rattle.rules.specs.Book.{sectionAt, positionOf}
 use Rattle.rules.specs.Expiry.{agreed}
 use Rattle.book.proofs.Good.{facts}
 use Rattle.book.proofs.Held.{held-good}
-use Rattle.giving.proofs.Laws.{filled-start, lotsChosen, chosenSoFar, chosen-next, chosen-length, chosen-end}
+use Rattle.giving.proofs.Laws.{chosenSoFar, chosen-start, chosen-next, chosen-length, chosen-end}
 use Rattle.giving.proofs.chosen.agreed_in_codes.Statement.{statement}
 use Rattle.giving.proofs.chosen.agreed_in_codes.Tie as tie
 
@@ -37,23 +37,27 @@ same-places : (c : tie.At-loop Inv-loop μ-loop) → length (c .loop .out) ≡ l
 same-places c =
     let start = c .before .before .before in
     let a = start .args in
-    ap length (c .loop .inv .1) ∙ chosen-length (a .t1) (test (now (a .nets))) (now (a .lots)) (now (a .out)) (start .pre .0) (start .pre .2) (c .loop .i) (c .loop .inv .0)
+    ap length (c .loop .inv .1) ∙ chosen-length (a .t1) (test (now (a .nets))) (now (a .lots)) (now (a .out)) (start .pre .2) (c .loop .i) (c .loop .inv .0)
 
-position-read : (c : tie.After-struct-told Inv-loop μ-loop) → toZ w64 (ofZ w64 (positionOf (sectionAt (c .before .before .before .before .before .before .args .t1) (c .before .before .before .loop .i)))) ≡ positionOf (sectionAt (c .before .before .before .before .before .before .args .t1) (c .before .before .before .loop .i))
+-- the section of this turn
+abbrev section : (c : tie.In-loop Inv-loop μ-loop) → Section
+section c = sectionAt (c .before .before .before .before .args .t1) (c .before .loop .i)
+
+position-read : (c : tie.After-struct-told Inv-loop μ-loop) → let z = positionOf (section (c .before .before)) in toZ w64 (ofZ w64 z) ≡ z
 position-read c = read-back w64 _ (search)
 
-code-place : (c : tie.In-loop Inv-loop μ-loop) → sectionAt (c .before .before .before .before .args .t1) (c .before .loop .i) .settlement < length (now (c .before .before .before .before .args .nets))
+code-place : (c : tie.In-loop Inv-loop μ-loop) → section c .settlement < length (now (c .before .before .before .before .args .nets))
 code-place c =
     let start = c .before .before .before .before in
     omega (arith, held-good (start .args .t1) (facts (start .args .t1) (start .pre .0)) (c .before .loop .i) (c .loop-test .taken) .settlement, start .pre .3)
 
-number-read : (c : tie.After-number Inv-loop μ-loop) → toZ w64 (ofZ w64 (entryℤ (now (c .before .before .before .before .before .before .before .before .args .nets)) (sectionAt (c .before .before .before .before .before .before .before .before .args .t1) (c .before .before .before .before .before .loop .i) .settlement))) ≡ entryℤ (now (c .before .before .before .before .before .before .before .before .args .nets)) (sectionAt (c .before .before .before .before .before .before .before .before .args .t1) (c .before .before .before .before .before .loop .i) .settlement)
+number-read : (c : tie.After-number Inv-loop μ-loop) → let z = entryℤ (now (c .before .before .before .before .before .before .before .before .args .nets)) (section (c .before .before .before .before) .settlement) in toZ w64 (ofZ w64 z) ≡ z
 number-read c = read-back w64 _ (search)
 
 loop-holds : tie.Need-loop-holds Inv-loop μ-loop
 loop-holds c =
     let a = c .before .before .args in
-    (omega arith, filled-start (lotsChosen (a .t1) (test (now (a .nets))) (now (a .lots)) (now (a .out))) (now (a .out)))
+    (omega arith, chosen-start (a .t1) (test (now (a .nets))) (now (a .lots)) (now (a .out)))
 
 mul-s : tie.Need-mul-s Inv-loop μ-loop
 mul-s c = omega (arith, place c)
@@ -104,7 +108,7 @@ loop-again c =
     let own = entry (now (a .lots)) i in (
       search needs,
       ap (λ (xs : List ℕ). set xs i (c .kept-if .result)) (at .loop .inv .1)
-          ∙ chosen-next (a .t1) (test (now (a .nets))) (now (a .lots)) (now (a .out)) (start .pre .0) (start .pre .2) i (c .kept-if .result) (in-loop .loop-test .taken)
+          ∙ chosen-next (a .t1) (test (now (a .nets))) (now (a .lots)) (now (a .out)) (start .pre .2) i (c .kept-if .result) (in-loop .loop-test .taken)
           (c .kept-if .ensures
           ∙ ap (λ (t : Bool). cond t own 0) (c .before .before .agreed .ensures ∙ ap₂ agreed (position-read (c .before .before .before .before .before)) (number-read (c .before .before .before)))),
     )
@@ -117,7 +121,7 @@ returns c =
     let at = c .before in
     let start = at .before .before .before in
     let a = start .args in
-    at .loop .inv .1 ∙ chosen-end (a .t1) (test (now (a .nets))) (now (a .lots)) (now (a .out)) (start .pre .0) (start .pre .2) (at .loop .i) (omega arith)
+    at .loop .inv .1 ∙ chosen-end (a .t1) (test (now (a .nets))) (now (a .lots)) (now (a .out)) (start .pre .2) (start .pre .0) (at .loop .i) (omega arith)
 
 pub agreed-in-codes-spec : {M : Type 1} → statement M
 agreed-in-codes-spec =

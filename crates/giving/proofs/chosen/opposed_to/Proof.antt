@@ -17,7 +17,7 @@ use Rattle.rules.specs.declared.book.Section.{Section}
 use Rattle.rules.specs.Book.{heldSections, sectionAt, positionOf}
 use Rattle.rules.specs.Expiry.{opposed, chosen}
 use Rattle.book.proofs.Good.{facts}
-use Rattle.giving.proofs.Laws.{filled-start, lotsChosen, chosenSoFar, chosen-next, chosen-length, chosen-end}
+use Rattle.giving.proofs.Laws.{chosenSoFar, chosen-start, chosen-next, chosen-length, chosen-end}
 use Rattle.giving.proofs.chosen.opposed_to.Statement.{statement}
 use Rattle.giving.proofs.chosen.opposed_to.Tie as tie
 
@@ -37,15 +37,19 @@ same-places : (c : tie.At-loop Inv-loop μ-loop) → length (c .loop .out) ≡ l
 same-places c =
     let start = c .before .before .before in
     let a = start .args in
-    ap length (c .loop .inv .1) ∙ chosen-length (a .t1) (test (toZ w64 (ofZ w64 (a .d)))) (now (a .lots)) (now (a .out)) (start .pre .0) (start .pre .2) (c .loop .i) (c .loop .inv .0)
+    ap length (c .loop .inv .1) ∙ chosen-length (a .t1) (test (toZ w64 (ofZ w64 (a .d)))) (now (a .lots)) (now (a .out)) (start .pre .2) (c .loop .i) (c .loop .inv .0)
 
-position-read : (c : tie.After-struct-told Inv-loop μ-loop) → toZ w64 (ofZ w64 (positionOf (sectionAt (c .before .before .before .before .before .before .args .t1) (c .before .before .before .loop .i)))) ≡ positionOf (sectionAt (c .before .before .before .before .before .before .args .t1) (c .before .before .before .loop .i))
+-- the section of this turn
+abbrev section : (c : tie.In-loop Inv-loop μ-loop) → Section
+section c = sectionAt (c .before .before .before .before .args .t1) (c .before .loop .i)
+
+position-read : (c : tie.After-struct-told Inv-loop μ-loop) → let z = positionOf (section (c .before .before)) in toZ w64 (ofZ w64 z) ≡ z
 position-read c = read-back w64 _ (search)
 
 loop-holds : tie.Need-loop-holds Inv-loop μ-loop
 loop-holds c =
     let a = c .before .before .args in
-    (omega arith, filled-start (lotsChosen (a .t1) (test (toZ w64 (ofZ w64 (a .d)))) (now (a .lots)) (now (a .out))) (now (a .out)))
+    (omega arith, chosen-start (a .t1) (test (toZ w64 (ofZ w64 (a .d)))) (now (a .lots)) (now (a .out)))
 
 mul-s : tie.Need-mul-s Inv-loop μ-loop
 mul-s c = omega (arith, place c)
@@ -88,7 +92,7 @@ loop-again c =
     let own = entry (now (a .lots)) i in (
       search needs,
       ap (λ (xs : List ℕ). set xs i (c .kept-if .result)) (at .loop .inv .1)
-          ∙ chosen-next (a .t1) (test d) (now (a .lots)) (now (a .out)) (start .pre .0) (start .pre .2) i (c .kept-if .result) (in-loop .loop-test .taken)
+          ∙ chosen-next (a .t1) (test d) (now (a .lots)) (now (a .out)) (start .pre .2) i (c .kept-if .result) (in-loop .loop-test .taken)
           (c .kept-if .ensures
           ∙ ap (λ (t : Bool). cond t own 0) (c .before .before .opposed .ensures ∙ ap (λ (z : ℤ). opposed z d) (position-read (c .before .before .before)))),
     )
@@ -101,7 +105,7 @@ returns c =
     let at = c .before in
     let start = at .before .before .before in
     let a = start .args in
-    at .loop .inv .1 ∙ chosen-end (a .t1) (test (toZ w64 (ofZ w64 (a .d)))) (now (a .lots)) (now (a .out)) (start .pre .0) (start .pre .2) (at .loop .i) (omega arith)
+    at .loop .inv .1 ∙ chosen-end (a .t1) (test (toZ w64 (ofZ w64 (a .d)))) (now (a .lots)) (now (a .out)) (start .pre .2) (start .pre .0) (at .loop .i) (omega arith)
     ∙ ap (λ (z : ℤ). chosen (heldSections (a .t1)) (test z) (now (a .lots))) (toZ-ofZ (start .fits .d))
 
 pub opposed-to-spec : {M : Type 1} → statement M

@@ -34,20 +34,23 @@ here c =
 loop-holds : tie.Need-loop-holds Inv-loop μ-loop
 loop-holds c = (omega arith, filled-start (left (now (c .args .lots)) (now (c .args .taken))) (now (c .args .lots)))
 
-mul-lots : tie.Need-mul-lots Inv-loop μ-loop
-mul-lots c = search needs
+mul-own : tie.Need-mul-own Inv-loop μ-loop
+mul-own c = search needs
 
-shared-slice-read-lots : tie.Need-shared-slice-read-lots Inv-loop μ-loop
-shared-slice-read-lots c = search needs
+slice-read-own : tie.Need-slice-read-own Inv-loop μ-loop
+slice-read-own c = omega (arith, same-places (c .before .before))
 
-mul-lots-2 : tie.Need-mul-lots-2 Inv-loop μ-loop
-mul-lots-2 c = search needs
+mul-gone : tie.Need-mul-gone Inv-loop μ-loop
+mul-gone c = search needs
 
-slice-read-lots : tie.Need-slice-read-lots Inv-loop μ-loop
-slice-read-lots c = omega (arith, same-places (c .before .before .before))
+shared-slice-read-gone : tie.Need-shared-slice-read-gone Inv-loop μ-loop
+shared-slice-read-gone c = search needs
 
 sub-lots : tie.Need-sub-lots Inv-loop μ-loop
 sub-lots c = omega (arith, here (c .before .before), c .before .before .before .before .pre .1 (c .before .before .before .loop .i))
+
+mul-lots : tie.Need-mul-lots Inv-loop μ-loop
+mul-lots c = search needs
 
 slice-write-lots : tie.Need-slice-write-lots Inv-loop μ-loop
 slice-write-lots c = omega (arith, same-places (c .before .before .before))
@@ -88,11 +91,12 @@ less-spec =
     Inv-loop
     μ-loop
     loop-holds
-    mul-lots
-    shared-slice-read-lots
-    mul-lots-2
-    slice-read-lots
+    mul-own
+    slice-read-own
+    mul-gone
+    shared-slice-read-gone
     sub-lots
+    mul-lots
     slice-write-lots
     add-i
     loop-less
