@@ -1,6 +1,6 @@
 // The lots of the sections that a step takes, and 0 for all others.
 ghost use mathlib.Core.Path.{_≡_};
-ghost use mathlib.Core.Bool.{true};
+ghost use mathlib.Core.Bool.{true, cond};
 ghost use Prim.Native.Nat.{ℕ};
 ghost use lib.ListN.{length};
 ghost use Rattle.numbers.specs.Lists.{entryℤ};
@@ -13,26 +13,24 @@ use rules::book::Book;
 pub fn opposed(x: i64, y: i64) -> bool
     ensures { λ r. ⌜ r ≡ Expiry.opposed x y ⌝ }
 {
-    if 0 < x {
-        return y < 0;
-    }
-    if x < 0 {
-        return 0 < y;
-    }
-    false
+    ((0 < x) & (y < 0)) | ((x < 0) & (0 < y))
 }
 
 // Whether two numbers are on the same side.
 pub fn agreed(x: i64, y: i64) -> bool
     ensures { λ r. ⌜ r ≡ Expiry.agreed x y ⌝ }
 {
-    if 0 < x {
-        return 0 < y;
+    ((0 < x) & (0 < y)) | ((x < 0) & (y < 0))
+}
+
+// The lots of a section that a step takes, and 0 for another.
+fn kept_if(test: bool, own: u64) -> u64
+    ensures { λ r. ⌜ r ≡ cond test own 0 ⌝ }
+{
+    if test {
+        return own;
     }
-    if x < 0 {
-        return y < 0;
-    }
-    false
+    0
 }
 
 // Step 3: the sections opposite to d.
@@ -45,11 +43,9 @@ pub fn opposed_to(b: Book, d: i64, lots: &[u64], out: &mut [u64])
     while i < held {
         let s = b.sections[i];
         let position = s.position.0;
-        if opposed(position, d) {
-            out[i] = lots[i];
-        } else {
-            out[i] = 0;
-        }
+        let test = opposed(position, d);
+        let own = lots[i];
+        out[i] = kept_if(test, own);
         i += 1;
     }
 }
@@ -65,11 +61,10 @@ pub fn opposed_in_codes(b: Book, gaps: &[i64], lots: &[u64], out: &mut [u64])
         let s = b.sections[i];
         let position = s.position.0;
         let c = s.settlement as usize;
-        if opposed(position, gaps[c]) {
-            out[i] = lots[i];
-        } else {
-            out[i] = 0;
-        }
+        let number = gaps[c];
+        let test = opposed(position, number);
+        let own = lots[i];
+        out[i] = kept_if(test, own);
         i += 1;
     }
 }
@@ -85,11 +80,10 @@ pub fn agreed_in_codes(b: Book, nets: &[i64], lots: &[u64], out: &mut [u64])
         let s = b.sections[i];
         let position = s.position.0;
         let c = s.settlement as usize;
-        if agreed(position, nets[c]) {
-            out[i] = lots[i];
-        } else {
-            out[i] = 0;
-        }
+        let number = nets[c];
+        let test = agreed(position, number);
+        let own = lots[i];
+        out[i] = kept_if(test, own);
         i += 1;
     }
 }

@@ -17,7 +17,9 @@ pub fn less(lots: &mut [u64], taken: &[u64])
     let all = lots.len();
     let mut i = 0;
     while i < all {
-        lots[i] -= taken[i];
+        let own = lots[i];
+        let gone = taken[i];
+        lots[i] = own - gone;
         i += 1;
     }
 }
