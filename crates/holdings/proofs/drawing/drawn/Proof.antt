@@ -4,7 +4,8 @@ use native.Mathlib.Omega.{arith}
 use mathlib.Core.Path.{sym, _∙_}
 use lib.ListN.{length}
 use Rattle.numbers.specs.Lists.{entry}
-use Rattle.numbers.proofs.Ranges.{Filled, filled-none, filled-length, filled-next, filled-end, listed-entries}
+use Rattle.numbers.proofs.Filled.{Filled, filled-none, filled-length, filled-next, filled-end}
+use Rattle.numbers.proofs.Ranges.{listed-entries}
 use Rattle.rules.specs.Book.{heldSections, filedNotices}
 use Rattle.rules.specs.Expiry.Drawing.{drawn}
 use Rattle.book.proofs.Good.{Good, facts}

@@ -4,7 +4,7 @@ use native.Mathlib.Omega.{arith}
 use mathlib.Core.Path.{sym, ap, _∙_}
 use mathlib.Core.Bool.{cond}
 use lib.ListN.{length}
-use Rattle.numbers.proofs.Ranges.{Filled, filled-none, filled-length, filled-next, filled-end}
+use Rattle.numbers.proofs.Filled.{Filled, filled-none, filled-length, filled-next, filled-end}
 use Rattle.rules.specs.declared.book.Section.{Section}
 use Rattle.rules.specs.Book.{heldSections, filedNotices, sectionOf}
 use Rattle.rules.specs.Expiry.{size}

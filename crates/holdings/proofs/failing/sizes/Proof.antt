@@ -9,7 +9,8 @@ use mir.Syntax.{w64}
 use mir.Val.{toZ, ofZ}
 use borrow.Author.Needs.{needs}
 use Rattle.numbers.proofs.Whole.{read-as}
-use Rattle.numbers.proofs.Ranges.{Filled, filled-none, filled-length, filled-next, filled-end, listed-read}
+use Rattle.numbers.proofs.Filled.{Filled, filled-none, filled-length, filled-next, filled-end}
+use Rattle.numbers.proofs.Ranges.{listed-read}
 use Rattle.rules.specs.Book.{heldSections, sectionAt, positionOf, sectionOf, sectionOfNoughts}
 use Rattle.rules.specs.Expiry.{size}
 use Rattle.book.proofs.Good.{Good, facts}

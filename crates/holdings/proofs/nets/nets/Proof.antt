@@ -4,7 +4,7 @@ use native.Mathlib.Omega.{arith}
 use mathlib.Core.Path.{_∙_}
 use lib.ListN.{length}
 use mir.Facts.{toZ-ofZ}
-use Rattle.numbers.proofs.Ranges.{Filled, filled-none, filled-length, filled-next, filled-end}
+use Rattle.numbers.proofs.Filled.{Filled, filled-none, filled-length, filled-next, filled-end}
 use Rattle.rules.specs.Book.{heldSections}
 use Rattle.rules.specs.Expiry.{netOfCode}
 use Rattle.holdings.proofs.nets.nets.Statement.{statement}
