@@ -1,39 +1,61 @@
--- A loop that fills a list by number: after i turns the entries below i are those of f, and the others are as they were.
+-- A list that is filled by number: entry i becomes f i, one turn after the other.
 use Prim.Native.Nat.{ℕ, suc, _+_, _≤_, _<_}
 use native.Mathlib.Nat.{zero-add}
 use native.Mathlib.Numerals.{add-one}
 use native.Mathlib.Omega.{arith}
 use mathlib.Core.Path.{_≡_, refl, ap, ap₂, _∙_}
-use mathlib.Core.List.{List, _++_, map-append, append-assoc, append-nil}
-use lib.ListN.{length, set, drop, length-append, length-drop, drop-of-length-le}
-use lib.Seq.{drop-cons, set-at}
+use mathlib.Core.List.{List, [], _∷_, _++_, map, map-append, append-assoc, append-nil}
+use lib.ListN.{length, getD, set, drop, drop-of-length-le, length-append, length-drop}
+use lib.Seq.{drop-cons, set-at, getD-at}
 use Rattle.numbers.specs.Lists.{counted, listed}
 use Rattle.numbers.proofs.Ranges.{counted-more, listed-length}
 
-pub listed-next : {A : Type 0} (f : ℕ → A) (ys : List A) (i : ℕ) → i < length ys → set (listed i f ++ drop i ys) i (f i) ≡ listed (i + 1) f ++ drop (i + 1) ys
-listed-next {A = A} f ys i h =
-    ap (λ (zs : List A). set (listed i f ++ zs) i (f i)) (drop-cons ys i (f i) h)
-    ∙ set-at (listed i f) _ (drop (suc i) ys) (f i) i (listed-length i f)
-    ∙ rw (add-one, counted-more, map-append, append-assoc, zero-add)
+-- after i turns
+abbrev pub partly : {A : Type 0} → (ℕ → A) → List A → ℕ → List A
+partly f was i = listed i f ++ drop i was
 
-pub record Filled {A : Type 0} (f : ℕ → A) (ys zs : List A) (i : ℕ) : Type 0 where
-  pub within : i ≤ length ys
-  pub entries : zs ≡ listed i f ++ drop i ys
+module _ {A : Type 0} (f : ℕ → A) (was : List A) where
+  one-more : (i : ℕ) → listed (suc i) f ≡ listed i f ++ (f i ∷ [])
+  one-more i = ap (map f) (counted-more 0 i) ∙ map-append f (counted 0 i) ((0 + i) ∷ []) ∙ ap (λ (j : ℕ). listed i f ++ (f j ∷ [])) (zero-add i)
 
-pub filled-none : {A : Type 0} (f : ℕ → A) (ys : List A) → Filled f ys ys 0
-unfolding counted
-filled-none f ys = record { within = omega arith; entries = refl }
+  pub partly-start : was ≡ partly f was 0
+  unfolding counted
+  partly-start = refl
 
-module _ {A : Type 0} {f : ℕ → A} {ys zs : List A} {i : ℕ} (filled : Filled f ys zs i) where
-  pub filled-length : length zs ≡ length ys
-  filled-length = ap length (filled .entries) ∙ simp (length-append, listed-length, length-drop) (omega (arith, filled .within))
+  -- one turn more
+  pub partly-next : (i : ℕ) → i < length was → set (partly f was i) i (f i) ≡ partly f was (i + 1)
+  partly-next i h =
+      ap (λ (rest : List A). set (listed i f ++ rest) i (f i)) (drop-cons was i (f i) h)
+      ∙ set-at (listed i f) (getD was i (f i)) (drop (suc i) was) (f i) i (listed-length i f)
+      ∙ rw (add-one, one-more i, append-assoc)
 
-  pub filled-next : i < length ys → (x : A) → x ≡ f i → Filled f ys (set zs i x) (i + 1)
-  filled-next h x e = record { within = omega (arith, h); entries = ap₂ (λ (l : List A) (y : A). set l i y) (filled .entries) e ∙ listed-next f ys i h }
+  -- what is not partly yet is as it was
+  pub partly-here : (i : ℕ) (d : A) → i < length was → getD (partly f was i) i d ≡ getD was i d
+  partly-here i d h =
+      ap (λ (rest : List A). getD (listed i f ++ rest) i d) (drop-cons was i d h)
+      ∙ getD-at (listed i f) (getD was i d) (drop (suc i) was) d i (listed-length i f)
 
-  pub filled-end : length ys ≤ i → (n : ℕ) → length ys ≡ n → zs ≡ listed n f
-  filled-end past n e =
-      filled .entries
-      ∙ ap (λ (l : List A). listed i f ++ l) (drop-of-length-le ys past)
-      ∙ append-nil (listed i f)
-      ∙ ap (λ (m : ℕ). listed m f) (omega (arith, past, e, filled .within))
+  pub partly-length : (i : ℕ) → i ≤ length was → length (partly f was i) ≡ length was
+  partly-length i h = length-append (listed i f) (drop i was) ∙ omega (arith, listed-length i f, length-drop i was)
+
+  -- and at the end
+  pub partly-end : (i : ℕ) → length was ≤ i → partly f was i ≡ listed i f
+  partly-end i h = ap (λ (rest : List A). listed i f ++ rest) (drop-of-length-le was h) ∙ append-nil (listed i f)
+
+-- the same as what a loop keeps of the list that it has filled so far
+pub record Filled {A : Type 0} (f : ℕ → A) (was now : List A) (i : ℕ) : Type 0 where
+  pub within : i ≤ length was
+  pub entries : now ≡ partly f was i
+
+pub filled-none : {A : Type 0} (f : ℕ → A) (was : List A) → Filled f was was 0
+filled-none f was = record { within = omega arith; entries = partly-start f was }
+
+module _ {A : Type 0} {f : ℕ → A} {was now : List A} {i : ℕ} (filled : Filled f was now i) where
+  pub filled-length : length now ≡ length was
+  filled-length = ap length (filled .entries) ∙ partly-length f was i (filled .within)
+
+  pub filled-next : i < length was → (x : A) → x ≡ f i → Filled f was (set now i x) (i + 1)
+  filled-next h x e = record { within = omega (arith, h); entries = ap₂ (λ (l : List A) (y : A). set l i y) (filled .entries) e ∙ partly-next f was i h }
+
+  pub filled-end : length was ≤ i → (n : ℕ) → length was ≡ n → now ≡ listed n f
+  filled-end past n e = filled .entries ∙ partly-end f was i past ∙ ap (λ (m : ℕ). listed m f) (omega (arith, past, e, filled .within))

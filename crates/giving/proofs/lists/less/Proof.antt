@@ -7,7 +7,7 @@ use mathlib.Core.List.{List}
 use lib.ListN.{length, set}
 use denote.Ref.{now}
 use Rattle.numbers.specs.Lists.{entry, listed}
-use Rattle.giving.proofs.Laws.{filled, filled-start, filled-next, filled-here, filled-length, filled-end}
+use Rattle.numbers.proofs.Filled.{partly, partly-start, partly-next, partly-here, partly-length, partly-end}
 use Rattle.giving.proofs.lists.less.Statement.{statement}
 use Rattle.giving.proofs.lists.less.Tie as tie
 
@@ -15,7 +15,7 @@ abbrev left : List ℕ → List ℕ → ℕ → ℕ
 left lots taken i = entry lots i - entry taken i
 
 abbrev Inv-loop : tie.InvT-loop
-Inv-loop lots₀ taken all i₀ lots i = (i ≤ length lots₀) × (lots ≡ filled (left lots₀ taken) lots₀ i)
+Inv-loop lots₀ taken all i₀ lots i = (i ≤ length lots₀) × (lots ≡ partly (left lots₀ taken) lots₀ i)
 
 abbrev μ-loop : tie.MeasureT-loop
 μ-loop lots₀ taken all i₀ lots i = all - i
@@ -23,16 +23,16 @@ abbrev μ-loop : tie.MeasureT-loop
 same-places : (c : tie.At-loop Inv-loop μ-loop) → length (c .loop .lots) ≡ length (now (c .before .args .lots))
 same-places c =
     let a = c .before .args in
-    ap length (c .loop .inv .1) ∙ filled-length (left (now (a .lots)) (now (a .taken))) (now (a .lots)) (c .loop .i) (c .loop .inv .0)
+    ap length (c .loop .inv .1) ∙ partly-length (left (now (a .lots)) (now (a .taken))) (now (a .lots)) (c .loop .i) (c .loop .inv .0)
 
 -- the entry that is read is still as it was
 here : (c : tie.In-loop Inv-loop μ-loop) → entry (c .before .loop .lots) (c .before .loop .i) ≡ entry (now (c .before .before .args .lots)) (c .before .loop .i)
 here c =
     let a = c .before .before .args in
-    ap (λ (xs : List ℕ). entry xs (c .before .loop .i)) (c .before .loop .inv .1) ∙ filled-here (left (now (a .lots)) (now (a .taken))) (now (a .lots)) (c .before .loop .i) 0 (c .loop-test .taken)
+    ap (λ (xs : List ℕ). entry xs (c .before .loop .i)) (c .before .loop .inv .1) ∙ partly-here (left (now (a .lots)) (now (a .taken))) (now (a .lots)) (c .before .loop .i) 0 (c .loop-test .taken)
 
 loop-holds : tie.Need-loop-holds Inv-loop μ-loop
-loop-holds c = (omega arith, filled-start (left (now (c .args .lots)) (now (c .args .taken))) (now (c .args .lots)))
+loop-holds c = (omega arith, partly-start (left (now (c .args .lots)) (now (c .args .taken))) (now (c .args .lots)))
 
 mul-own : tie.Need-mul-own Inv-loop μ-loop
 mul-own c = search needs
@@ -69,7 +69,7 @@ loop-again c =
       search needs,
       ap (λ (n : ℕ). set (at .loop .lots) i (n - entry (now (a .taken)) i)) (here (c .before .before))
           ∙ ap (λ (xs : List ℕ). set xs i (left (now (a .lots)) (now (a .taken)) i)) (at .loop .inv .1)
-          ∙ filled-next (left (now (a .lots)) (now (a .taken))) (now (a .lots)) i (c .before .before .loop-test .taken),
+          ∙ partly-next (left (now (a .lots)) (now (a .taken))) (now (a .lots)) i (c .before .before .loop-test .taken),
     )
 
 same-length : tie.Need-same-length Inv-loop μ-loop
@@ -81,7 +81,7 @@ returns c =
     let a = at .before .args in
     let all : at .loop .i ≡ length (now (a .lots)) = omega arith in
     at .loop .inv .1
-    ∙ filled-end (left (now (a .lots)) (now (a .taken))) (now (a .lots)) (at .loop .i) (omega arith)
+    ∙ partly-end (left (now (a .lots)) (now (a .taken))) (now (a .lots)) (at .loop .i) (omega arith)
     ∙ ap (λ (n : ℕ). listed n (left (now (a .lots)) (now (a .taken)))) all
 
 pub less-spec : {M : Type 1} → statement M
