@@ -14,7 +14,7 @@ pub fn less(lots: &mut [u64], taken: &[u64])
     requires { ⌜ (length (now taken) ≡ length (now lots)) × ((i : ℕ) → entry (now taken) i ≤ entry (now lots) i) ⌝ }
     ensures { λ _. ⌜ now (lots .exit) ≡ Lists.less (now (lots .entry)) (now (taken .entry)) ⌝ }
 {
-    let all = lots.len();
+    let all = taken.len();
     let mut i = 0;
     while i < all {
         let own = lots[i];

@@ -29,7 +29,7 @@ same-places c =
 here : (c : tie.In-loop Inv-loop μ-loop) → entry (c .before .loop .lots) (c .before .loop .i) ≡ entry (now (c .before .before .args .lots)) (c .before .loop .i)
 here c =
     let a = c .before .before .args in
-    ap (λ (xs : List ℕ). entry xs (c .before .loop .i)) (c .before .loop .inv .1) ∙ partly-here (left (now (a .lots)) (now (a .taken))) (now (a .lots)) (c .before .loop .i) 0 (c .loop-test .taken)
+    ap (λ (xs : List ℕ). entry xs (c .before .loop .i)) (c .before .loop .inv .1) ∙ partly-here (left (now (a .lots)) (now (a .taken))) (now (a .lots)) (c .before .loop .i) 0 (omega arith)
 
 loop-holds : tie.Need-loop-holds Inv-loop μ-loop
 loop-holds c = (omega arith, partly-start (left (now (c .args .lots)) (now (c .args .taken))) (now (c .args .lots)))
@@ -69,7 +69,7 @@ loop-again c =
       search needs,
       ap (λ (n : ℕ). set (at .loop .lots) i (n - entry (now (a .taken)) i)) (here (c .before .before))
           ∙ ap (λ (xs : List ℕ). set xs i (left (now (a .lots)) (now (a .taken)) i)) (at .loop .inv .1)
-          ∙ partly-next (left (now (a .lots)) (now (a .taken))) (now (a .lots)) i (c .before .before .loop-test .taken),
+          ∙ partly-next (left (now (a .lots)) (now (a .taken))) (now (a .lots)) i (omega arith),
     )
 
 same-length : tie.Need-same-length Inv-loop μ-loop
