@@ -4,24 +4,38 @@ use native.Mathlib.Nat.{not-suc-le-zero, le-of-suc-le-suc}
 use native.Mathlib.Omega.{arith}
 use mathlib.Core.Path.{_≡_, refl, sym, ap, ap₂, subst, _∙_}
 use mathlib.Core.Bool.{Bool}
-use mathlib.Core.List.{List, _∷_, _++_, map}
+use mathlib.Core.List.{List, [], _∷_, _++_, map}
 use mathlib.Core.Logic.{⊎-elim}
-use lib.ListN.{length, take, drop, replicate, length-append, List·getD-map}
+use lib.ListN.{length, take, drop, replicate, length-append, length-map, List·getD-map}
 use lib.Seq.{take-at}
+use lib.Dec.{ltb}
 use lib.IntN.{ℤ, pos, natAbs, _+ℤ_}
-use Rattle.numbers.specs.Lists.{counted, listed, entry, entryℤ, ordered}
-use Rattle.numbers.specs.Sums.{gathered, totalℤ}
+use Rattle.numbers.specs.Lists.{counted, listed, entry, entryℤ, less, ordered}
+use Rattle.numbers.specs.Sums.{gathered, total, totalℤ}
 use Rattle.numbers.proofs.Sums.{wholes}
-use Rattle.numbers.proofs.Ranges.{sum-more, listed-at, listed-past}
+use Rattle.numbers.proofs.Ranges.{sum-more, listed-at, listed-past, listed-under, less-at, getD-past}
 use Rattle.numbers.proofs.Tests.{below-or-not}
 use Rattle.numbers.proofs.Whole.{sum-within}
 use Rattle.rules.specs.declared.book.Book.{Book}
-use Rattle.rules.specs.Book.{heldSections}
-use Rattle.rules.specs.Expiry.{earlier, inOrder, netOfCode}
+use Rattle.rules.specs.declared.book.Section.{Section}
+use Rattle.rules.specs.declared.book.Notice.{Notice}
+use Rattle.rules.specs.Book.{heldSections, filedNotices, positionOf, sectionOf, sectionOfNoughts}
+use Rattle.rules.specs.Expiry
+use Rattle.rules.specs.Expiry.{opposed, chosen, earlier, inOrder, netOfCode}
+use Rattle.rules.specs.Expiry.Failing.{fails, failing}
+use Rattle.rules.specs.Expiry.Codes.{gaps, givenInCodes}
+use Rattle.rules.specs.Expiry.Across.{leftOpen, codeCaps, givenAcross}
+use Rattle.rules.specs.Expiry.Call.{delivered}
+use Rattle.delivery.proofs.Greedy.{given}
+use Rattle.delivery.proofs.Sides.{chosen-within}
 use Rattle.book.proofs.Good.{Good}
-use Rattle.book.proofs.Held.{held-length}
-use Rattle.holdings.proofs.Laws.{adds, adds-most, net-all}
+use Rattle.book.proofs.Held.{held-length, held-good}
+use Rattle.holdings.proofs.Laws.{held-at, adds, adds-most, net-all}
 use Rattle.orders.proofs.Laws.{ordered-below}
+
+-- the local lists, as they are at first
+abbrev pub noughts : List ℕ
+noughts = replicate 128 0
 
 -- the front of a list of noughts
 pub noughts-front : (n m : ℕ) → n ≤ m → take {A = ℕ} n (replicate m 0) ≡ replicate n 0
@@ -89,3 +103,55 @@ module _ (b : Book) (book : Good b) (lots : List ℕ) where
         ⊎-elim (λ (h : c < 64). subst (λ (z : ℤ). natAbs z ≤ 128_000_000) (sym (listed-at 64 (netOfCode (heldSections b) lots) c (pos 0) h)) (net-small c))
         (λ (h : 64 ≤ c). subst (λ (z : ℤ). natAbs z ≤ 128_000_000) (sym (listed-past 64 (netOfCode (heldSections b) lots) c (pos 0) h)) (omega arith))
         (below-or-not c 64)
+
+-- what is read of a list is read of what it is
+pub small-as : (n : ℕ) {xs ys : List ℕ} → xs ≡ ys → ((i : ℕ) → entry ys i ≤ n) → (i : ℕ) → entry xs i ≤ n
+small-as n {xs} {ys} e h i = omega (arith, ap (λ (zs : List ℕ). entry zs i) e, h i)
+
+pub within-as : {xs ys us vs : List ℕ} → xs ≡ us → ys ≡ vs → ((i : ℕ) → entry us i ≤ entry vs i) → (i : ℕ) → entry xs i ≤ entry ys i
+within-as {xs} {ys} {us} {vs} e f h i = omega (arith, ap (λ (zs : List ℕ). entry zs i) e, ap (λ (zs : List ℕ). entry zs i) f, h i)
+
+-- what is left of small lots
+pub left-small : (n : ℕ) (xs ys : List ℕ) → ((i : ℕ) → entry xs i ≤ n) → (i : ℕ) → entry (less xs ys) i ≤ n
+left-small n xs ys h i = omega (arith, less-at xs ys i, h i)
+
+-- no step takes more than there is
+module _ (ss : List Section) where
+  sizes-at : (i : ℕ) → entry (map Expiry.size ss) i ≡ Expiry.size (sectionOf ss i)
+  sizes-at i = List·getD-map Expiry.size ss i (sectionOfNoughts [])
+
+  pub failed-within : (ns : List Notice) (i : ℕ) → entry (failing ss ns) i ≤ entry (map Expiry.size ss) i
+  unfolding failing
+  failed-within ns i = omega (arith, sizes-at i, listed-under (length ss) (fails ss ns) (λ (j : ℕ). Expiry.size (sectionOf ss j)) i)
+
+  pub in-codes-within : (gap : List ℤ) (sound : List ℕ) (i : ℕ) → entry (givenInCodes ss gap sound) i ≤ entry sound i
+  unfolding givenInCodes
+  in-codes-within gap sound i =
+      let test : Section → Bool = λ (s : Section). opposed (positionOf s) (entryℤ gap (s .settlement)) in
+      omega (arith, given ss (chosen ss test sound) ltb (map natAbs gap) (total (map natAbs gap)) .each i, chosen-within ss test sound i)
+
+  pub across-within : (d : ℤ) (left : List ℕ) (i : ℕ) → entry (givenAcross ss d left) i ≤ entry left i
+  unfolding givenAcross
+  across-within d left i =
+      let test : Section → Bool = λ (s : Section). opposed (positionOf s) d in
+      omega (arith, given ss (chosen ss test left) ltb (codeCaps ss d left) (natAbs d) .each i, chosen-within ss test left i)
+
+  pub delivered-within : (ns : List Notice) (i : ℕ) → entry (delivered ss ns) i ≤ entry (map Expiry.size ss) i
+  unfolding delivered
+  delivered-within ns i =
+      let failed = failing ss ns in
+      let sound = less (map Expiry.size ss) failed in
+      let gap = gaps ss failed in
+      let inCodes = givenInCodes ss gap sound in
+      let left = less sound inCodes in
+      omega (arith, less-at (map Expiry.size ss) failed i, less-at sound inCodes i, less-at left (givenAcross ss (leftOpen ss gap inCodes) left) i)
+
+-- the positions of a good book are small
+pub positions-small : (b : Book) → Good b → (i : ℕ) → entry (map Expiry.size (heldSections b)) i ≤ 1_000_000
+positions-small b book i =
+    ⊎-elim (λ (h : i < b .held). omega (arith, sizes-at (heldSections b) i, ap Expiry.size (held-at b i h), held-good b book i h .position))
+    (λ (h : b .held ≤ i). omega (arith, getD-past (map Expiry.size (heldSections b)) i 0 (omega (arith, h, length-map (heldSections b) Expiry.size, held-length b (book .section-places) (book .held)))))
+    (below-or-not i (b .held))
+
+pub failing-small : (b : Book) → Good b → (i : ℕ) → entry (failing (heldSections b) (filedNotices b)) i ≤ 1_000_000
+failing-small b book i = omega (arith, failed-within (heldSections b) (filedNotices b) i, positions-small b book i)

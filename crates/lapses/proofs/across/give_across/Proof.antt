@@ -5,7 +5,7 @@ use mathlib.Core.Path.{_≡_, sym, ap, ap₂, _∙_}
 use mathlib.Core.Bool.{cond}
 use mathlib.Core.List.{List}
 use lib.Dec.{ltb}
-use lib.ListN.{length, replicate}
+use lib.ListN.{length}
 use lib.Seq.{length-take-le}
 use lib.IntN.{ℤ, pos, natAbs}
 use denote.Ref.{now}
@@ -17,12 +17,9 @@ use Rattle.rules.specs.Book.{heldSections, positionOf}
 use Rattle.rules.specs.Expiry.{opposed, netOfCode, chosen, inOrder, taken}
 use Rattle.rules.specs.Expiry.Across.{codeCaps, givenAcross}
 use Rattle.book.proofs.Good.{Good, facts}
-use Rattle.lapses.proofs.Laws.{front-is, front-fits, front-length, listed-same}
+use Rattle.lapses.proofs.Laws.{noughts, front-is, front-fits, front-length, listed-same}
 use Rattle.lapses.proofs.across.give_across.Statement.{statement}
 use Rattle.lapses.proofs.across.give_across.Tie as tie
-
-abbrev noughts : List ℕ
-noughts = replicate 128 0
 
 book : (c : tie.Start) → Good (c .args .b)
 book c = facts _ (c .pre .0)

@@ -5,7 +5,7 @@ use native.Mathlib.Omega.{arith}
 use mathlib.Core.Path.{_≡_, sym, ap, ap₂, subst, _∙_}
 use mathlib.Core.List.{List}
 use lib.Dec.{ltb}
-use lib.ListN.{length, replicate}
+use lib.ListN.{length}
 use lib.Seq.{length-take-le}
 use denote.Ref.{now}
 use Rattle.numbers.specs.Lists.{entry}
@@ -14,12 +14,9 @@ use Rattle.rules.specs.Book.{heldSections}
 use Rattle.rules.specs.Expiry.{inOrder, taken}
 use Rattle.rules.specs.Expiry.Codes.{givenInCodes}
 use Rattle.book.proofs.Good.{Good, facts}
-use Rattle.lapses.proofs.Laws.{front-is, front-fits, front-length, sizes-small}
+use Rattle.lapses.proofs.Laws.{noughts, front-is, front-fits, front-length, sizes-small}
 use Rattle.lapses.proofs.codes.give_in_codes.Statement.{statement}
 use Rattle.lapses.proofs.codes.give_in_codes.Tie as tie
-
-abbrev noughts : List ℕ
-noughts = replicate 128 0
 
 book : (c : tie.Start) → Good (c .args .b)
 book c = facts _ (c .pre .0 .0)

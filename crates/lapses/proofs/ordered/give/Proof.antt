@@ -1,7 +1,6 @@
 -- The order that the first call leaves in the front of the local list is what the second call gives by.
 use borrow.Author.Needs.{needs}
 use Prim.Native.Nat.{ℕ, _<_}
-use native.Mathlib.Omega.{arith}
 use mathlib.Core.Path.{_≡_, sym, ap, ap₂, subst, _∙_}
 use mathlib.Core.List.{List}
 use lib.ListN.{length, replicate, length-replicate}
@@ -12,16 +11,9 @@ use Rattle.rules.specs.Book.{heldSections}
 use Rattle.rules.specs.Expiry.{taken, takenFrom}
 use Rattle.book.proofs.Good.{Good, facts}
 use Rattle.book.proofs.Held.{held-length}
-use Rattle.lapses.proofs.Laws.{order-below, front-length, front-fits, front-is}
+use Rattle.lapses.proofs.Laws.{noughts, order-below, front-length, front-fits, front-is}
 use Rattle.lapses.proofs.ordered.give.Statement.{statement}
 use Rattle.lapses.proofs.ordered.give.Tie as tie
-use Rattle.lapses.proofs.ordered.give.Reads as reads
-use Rattle.lapses.proofs.ordered.give.Lts as lts
-use Rattle.giving.proofs.taken.give.Reads as give-reads
-use Rattle.orders.proofs.sections.in_order.Reads as in-order-reads
-
-abbrev noughts : List ℕ
-noughts = replicate 128 0
 
 book : (c : tie.Start) → Good (c .args .b)
 book c = facts _ (c .pre .0)

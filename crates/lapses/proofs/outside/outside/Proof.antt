@@ -5,7 +5,7 @@ use native.Mathlib.Omega.{arith}
 use mathlib.Core.Path.{_≡_, sym, ap, ap₂, subst, _∙_}
 use mathlib.Core.List.{List, map}
 use lib.Dec.{ltb}
-use lib.ListN.{length, replicate}
+use lib.ListN.{length}
 use lib.Seq.{length-take-le}
 use lib.IntN.{ℤ, natAbs}
 use denote.Ref.{now}
@@ -16,12 +16,9 @@ use Rattle.rules.specs.Book.{heldSections, positionOf}
 use Rattle.rules.specs.Expiry.{agreed, netOfCode, chosen, inOrder, taken}
 use Rattle.rules.specs.Expiry.Outside
 use Rattle.book.proofs.Good.{Good, facts}
-use Rattle.lapses.proofs.Laws.{front-is, front-fits, front-length, sizes-small, nets-small}
+use Rattle.lapses.proofs.Laws.{noughts, front-is, front-fits, front-length, sizes-small, nets-small}
 use Rattle.lapses.proofs.outside.outside.Statement.{statement}
 use Rattle.lapses.proofs.outside.outside.Tie as tie
-
-abbrev noughts : List ℕ
-noughts = replicate 128 0
 
 book : (c : tie.Start) → Good (c .args .b)
 book c = facts _ (c .pre .0)
