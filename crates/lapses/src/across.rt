@@ -9,10 +9,9 @@ ghost use Rattle.numbers.specs.Sums.{totalℤ};
 ghost use Rattle.rules.specs.Book.{good, heldSections};
 ghost use Rattle.rules.specs.Expiry;
 ghost use Rattle.rules.specs.Expiry.Across;
+use crate::ordered;
 use giving::chosen;
-use giving::taken;
 use holdings::nets;
-use orders::sections;
 use rules::book::Book;
 use value::signed;
 
@@ -22,13 +21,25 @@ pub fn left_open(gaps: &[i64], nets: &[i64]) -> i64
     requires { ⌜ ((c : ℕ) → natAbs (entryℤ (now gaps) c) ≤ 128_000_000) × ((c : ℕ) → natAbs (entryℤ (now nets) c) ≤ 128_000_000) ⌝ }
     ensures { λ r. ⌜ r ≡ totalℤ (listed 64 (λ (c : ℕ). entryℤ (now (gaps .entry)) c +ℤ entryℤ (now (nets .entry)) c)) ⌝ }
 {
-    let mut d = 0;
+    let mut d: i64 = 0;
     let mut c = 0;
     while c < 64 {
-        d += gaps[c] + nets[c];
+        let gap = gaps[c];
+        let net = nets[c];
+        d = signed::sum(d, signed::sum(gap, net));
         c += 1;
     }
     d
+}
+
+// A net that is opposite to d, 0 for another.
+fn cap(net: i64, d: i64) -> u64
+    ensures { λ r. ⌜ r ≡ cond (Expiry.opposed net d) (natAbs net) 0 ⌝ }
+{
+    if chosen::opposed(net, d) {
+        return signed::size(net);
+    }
+    0
 }
 
 // The net of each code that is opposite to d, 0 of all others.
@@ -39,11 +50,7 @@ fn code_caps(d: i64, nets: &[i64], caps: &mut [u64])
     let mut c = 0;
     while c < 64 {
         let net = nets[c];
-        if chosen::opposed(net, d) {
-            caps[c] = signed::size(net);
-        } else {
-            caps[c] = 0;
-        }
+        caps[c] = cap(net, d);
         c += 1;
     }
 }
@@ -55,13 +62,11 @@ pub fn give_across(b: Book, d: i64, left: &[u64], given: &mut [u64])
 {
     let held = b.held;
     let mut lots = [0; 128];
-    let mut order = [0; 128];
     let mut caps = [0; 64];
     let mut net = [0; 64];
     chosen::opposed_to(b, d, left, &mut lots[..held]);
-    sections::in_order(b, &lots[..held], false, &mut order[..held]);
     nets::nets(b, left, &mut net);
     code_caps(d, &net, &mut caps);
     let need = signed::size(d);
-    taken::give(b, &order[..held], &lots[..held], &mut caps, need, given);
+    ordered::give(b, &lots[..held], false, &mut caps, need, given);
 }

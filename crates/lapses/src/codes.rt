@@ -7,10 +7,9 @@ ghost use lib.ListN.{length, replicate};
 ghost use Rattle.numbers.specs.Lists.{entry, entryℤ};
 ghost use Rattle.rules.specs.Book.{good, heldSections};
 ghost use Rattle.rules.specs.Expiry.Codes;
+use crate::ordered;
 use giving::chosen;
 use giving::lists;
-use giving::taken;
-use orders::sections;
 use rules::book::Book;
 
 // What each sound section gives towards its code's D(c); `given` is noughts at first.
@@ -21,11 +20,9 @@ pub fn give_in_codes(b: Book, gaps: &[i64], sound: &[u64], given: &mut [u64])
 {
     let held = b.held;
     let mut lots = [0; 128];
-    let mut order = [0; 128];
     let mut caps = [0; 64];
     chosen::opposed_in_codes(b, gaps, sound, &mut lots[..held]);
-    sections::in_order(b, &lots[..held], false, &mut order[..held]);
     lists::magnitudes(gaps, &mut caps);
     let need = lists::sum(&caps);
-    taken::give(b, &order[..held], &lots[..held], &mut caps, need, given);
+    ordered::give(b, &lots[..held], false, &mut caps, need, given);
 }

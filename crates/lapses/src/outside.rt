@@ -6,11 +6,10 @@ ghost use lib.ListN.{length, replicate};
 ghost use Rattle.numbers.specs.Lists.{entry};
 ghost use Rattle.rules.specs.Book.{good, heldSections};
 ghost use Rattle.rules.specs.Expiry.Outside;
+use crate::ordered;
 use giving::chosen;
 use giving::lists;
-use giving::taken;
 use holdings::nets;
-use orders::sections;
 use rules::book::Book;
 
 // What of the lots kept goes outside; `far` is noughts at first.
@@ -20,13 +19,11 @@ pub fn outside(b: Book, kept: &[u64], far: &mut [u64])
 {
     let held = b.held;
     let mut lots = [0; 128];
-    let mut order = [0; 128];
     let mut caps = [0; 64];
     let mut net = [0; 64];
     nets::nets(b, kept, &mut net);
     chosen::agreed_in_codes(b, &net, kept, &mut lots[..held]);
-    sections::in_order(b, &lots[..held], true, &mut order[..held]);
     lists::magnitudes(&net, &mut caps);
     let need = lists::sum(&caps);
-    taken::give(b, &order[..held], &lots[..held], &mut caps, need, far);
+    ordered::give(b, &lots[..held], true, &mut caps, need, far);
 }
