@@ -2,4 +2,3 @@
 pub mod first;
 pub mod largest;
 pub mod offers;
-pub mod second;
