@@ -1,6 +1,6 @@
--- The place of the largest entry, found by a scan of the list: its start, one turn, and its end.
+-- The place of the largest entry, found by a scan of the list: its start, one turn, and its end. What is drawn of the notices at an elevator. Stage one, as its loop goes.
 use Prim.Native.Nat.{ℕ, zero, suc, _+_, _-_, _≤_, _<_, min}
-use native.Mathlib.Nat.{zero-add, not-suc-le-zero}
+use native.Mathlib.Nat.{zero-add}
 use native.Mathlib.Numerals.{add-one}
 use native.Mathlib.Omega.{arith}
 use mathlib.Core.Path.{_≡_, refl, sym, ap, ap₂, _∙_}
@@ -8,7 +8,7 @@ use mathlib.Core.Bool.{Bool, true, false, cond, _&&_, _||_}
 use mathlib.Core.Logic.{⊎-elim}
 use mathlib.Core.List.{List, [], _∷_, _++_, map, map-map, map-append, append-assoc, append-nil}
 use lib.Dec.{ltb, eqb}
-use lib.ListN.{length, length-set, getD, set, drop, drop-of-length-le}
+use lib.ListN.{length, length-set, set, drop, drop-of-length-le}
 use lib.Seq.{getD-take, getD-set-same, getD-set-other}
 use borrow.Author.Tests.{ltb-true, eq-eqb, ne-eqb}
 use Rattle.numbers.specs.Lists.{entry, counted, listed, largestFrom, largest}

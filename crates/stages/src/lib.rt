@@ -2,3 +2,4 @@
 pub mod first;
 pub mod largest;
 pub mod offers;
+pub mod second;

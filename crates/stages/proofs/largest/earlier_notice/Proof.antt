@@ -1,7 +1,6 @@
 use native.Mathlib.Omega.{arith}
 use mathlib.Core.Path.{sym, ap₂, _∙_}
 use lib.Seq.{getD-take}
-use Prim.Native.Nat.{ℕ, _≤_}
 use Rattle.rules.specs.declared.book.Notice.{Notice}
 use Rattle.rules.specs.Book.{heldSections, blankNotice}
 use Rattle.rules.specs.Expiry.{lowerCode}
@@ -10,42 +9,31 @@ use Rattle.stages.proofs.Laws.{seller-held}
 use borrow.Author.Needs.{needs}
 use Rattle.stages.proofs.largest.earlier_notice.Statement.{statement}
 use Rattle.stages.proofs.largest.earlier_notice.Tie as tie
-use Rattle.stages.proofs.largest.earlier_notice.Reads as reads
-use Rattle.stages.proofs.largest.earlier_notice.Lts as lts
-use Rattle.orders.proofs.sections.lower_code.Reads as lower-code-reads
 
--- src/largest.rt:67:13
 mul-n : tie.Need-mul-n
 mul-n c = omega (arith, facts _ (c .pre .0) .filed)
 
--- src/largest.rt:67:13
 element-copy-out-n : tie.Need-element-copy-out-n
 element-copy-out-n c = omega (arith, facts _ (c .pre .0) .filed)
 
--- src/largest.rt:68:13
 mul-m : tie.Need-mul-m
 mul-m c = omega (arith, facts _ (c .before .pre .0) .filed)
 
--- src/largest.rt:68:13
 element-copy-out-m : tie.Need-element-copy-out-m
 element-copy-out-m c = omega (arith, facts _ (c .before .pre .0) .filed)
 
--- src/largest.rt:69:16
 cast-mine : tie.Need-cast-mine
 cast-mine c = search needs
 
--- src/largest.rt:70:15
 cast-its : tie.Need-cast-its
 cast-its c = search needs
 
--- src/largest.rt:71:5
 lower-code-requires : tie.Need-lower-code-requires
 lower-code-requires c κs =
     let start = c .before .before .before .before in
     let held = seller-held (start .args .t1) (start .pre .0) in
     (start .pre .0, held (start .args .i) (start .pre .1), held (start .args .j) (start .pre .2))
 
--- src/largest.rt:63:1
 returns : tie.Need-returns
 returns c =
     let start = c .before .before .before .before .before in

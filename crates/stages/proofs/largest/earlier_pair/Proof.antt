@@ -6,47 +6,34 @@ use Rattle.numbers.specs.Lists.{entry, _and_}
 use borrow.Author.Needs.{needs}
 use Rattle.stages.proofs.largest.earlier_pair.Statement.{statement}
 use Rattle.stages.proofs.largest.earlier_pair.Tie as tie
-use Rattle.stages.proofs.largest.earlier_pair.Reads as reads
-use Rattle.stages.proofs.largest.earlier_pair.Lts as lts
-use Rattle.orders.proofs.sections.lower_code.Reads as lower-code-reads
 
--- src/largest.rt:98:16
 mul-mine : tie.Need-mul-mine
 mul-mine c = search needs
 
--- src/largest.rt:98:16
 shared-slice-read-mine : tie.Need-shared-slice-read-mine
 shared-slice-read-mine c = search needs
 
--- src/largest.rt:99:15
 mul-its : tie.Need-mul-its
 mul-its c = search needs
 
--- src/largest.rt:99:15
 shared-slice-read-its : tie.Need-shared-slice-read-its
 shared-slice-read-its c = search needs
 
--- src/largest.rt:100:18
 mul-stands : tie.Need-mul-stands
 mul-stands c = search needs
 
--- src/largest.rt:100:18
 shared-slice-read-stands : tie.Need-shared-slice-read-stands
 shared-slice-read-stands c = search needs
 
--- src/largest.rt:101:17
 mul-other : tie.Need-mul-other
 mul-other c = search needs
 
--- src/largest.rt:101:17
 shared-slice-read-other : tie.Need-shared-slice-read-other
 shared-slice-read-other c = search needs
 
--- src/largest.rt:102:9
 lower-code-requires : tie.Need-lower-code-requires
 lower-code-requires c κs = search needs
 
--- src/largest.rt:93:1
 returns : tie.Need-returns
 returns c =
     let a = c .before .before .before .before .before .before .before .args in

@@ -1,24 +1,15 @@
 use borrow.Author.Needs.{needs}
-use Prim.Native.Nat.{ℕ, _+_, _-_, _≤_}
+use Prim.Native.Nat.{ℕ, _-_}
 use native.Mathlib.Omega.{arith}
-use mathlib.Core.Path.{refl, _≡_}
 use mathlib.Core.Bool.{Bool}
-use mathlib.Core.List.{List}
-use lib.ListN.{length}
 use denote.Ref.{now}
 use Rattle.rules.specs.declared.book.Book.{Book}
 use Rattle.rules.specs.Book.{heldSections, filedNotices, noticeOf}
 use Rattle.rules.specs.Expiry.{lowerCode}
 use Rattle.rules.specs.Expiry.Passes.{offers}
 use Rattle.stages.proofs.Laws.{Scan, scan-start, scan-next, scan-end, offers-length}
-
 use Rattle.stages.proofs.largest.notice.Statement.{statement}
 use Rattle.stages.proofs.largest.notice.Tie as tie
-use Rattle.stages.proofs.largest.notice.Reads as reads
-use Rattle.stages.proofs.largest.notice.Lts as lts
-use Rattle.stages.proofs.largest.earlier_notice.Reads as earlier-notice-reads
-use Rattle.stages.proofs.largest.leader.Reads as leader-reads
-use Rattle.stages.proofs.offers.offer.Reads as offer-reads
 
 abbrev earlier : Book → ℕ → ℕ → Bool
 earlier b i j = lowerCode (heldSections b) (noticeOf (filedNotices b) i .section) (noticeOf (filedNotices b) j .section)
@@ -29,35 +20,27 @@ Inv-loop b drawn elevator all best₀ i₀ best i = Scan (earlier b) (offers (fi
 abbrev μ-loop : tie.MeasureT-loop
 μ-loop b drawn elevator all best₀ i₀ best i = all - i
 
--- src/largest.rt:82:5
 loop-holds : tie.Need-loop-holds Inv-loop μ-loop
 loop-holds c = scan-start (earlier (c .before .args .b)) (offers (filedNotices (c .before .args .b)) (now (c .before .args .drawn)) (c .before .args .elevator))
 
--- src/largest.rt:83:13
 offer-requires : tie.Need-offer-requires Inv-loop μ-loop
 offer-requires c κs = search needs
 
--- src/largest.rt:84:13
 offer-requires-2 : tie.Need-offer-requires-2 Inv-loop μ-loop
 offer-requires-2 c κs = search needs
 
--- src/largest.rt:85:13
 earlier-notice-requires : tie.Need-earlier-notice-requires Inv-loop μ-loop
 earlier-notice-requires c κs = search needs
 
--- src/largest.rt:86:9
 leader-requires : tie.Need-leader-requires Inv-loop μ-loop
 leader-requires c κs = search needs
 
--- src/largest.rt:87:9
 add-i : tie.Need-add-i Inv-loop μ-loop
 add-i c = search needs
 
--- src/largest.rt:82:5
 loop-less : tie.Need-loop-less Inv-loop μ-loop
 loop-less c = search needs
 
--- src/largest.rt:82:5
 loop-again : tie.Need-loop-again Inv-loop μ-loop
 loop-again c =
     let at = c .before .before .before .before .before in
@@ -66,7 +49,6 @@ loop-again c =
     let long = offers-length (a .b) (start .pre .0) (now (a .drawn)) (a .elevator) in
     scan-next (earlier (a .b)) (offers (filedNotices (a .b)) (now (a .drawn)) (a .elevator)) (at .loop .best) (at .loop .i) _ _ _ _ (omega (arith, long)) (at .loop .inv) (c .before .before .before .offer .ensures) (c .before .before .offer2 .ensures) (c .before .earlier-notice .ensures) (c .leader .ensures)
 
--- src/largest.rt:75:1
 returns : tie.Need-returns Inv-loop μ-loop
 returns c =
     let at = c .before in

@@ -1,12 +1,10 @@
 use borrow.Author.Needs.{needs}
-use Prim.Native.Nat.{ℕ, _+_, _-_, _≤_, _<_}
+use Prim.Native.Nat.{ℕ, _-_, _<_}
 use native.Mathlib.Omega.{arith}
-use mathlib.Core.Path.{refl, sym, ap₂, _∙_, _≡_}
+use mathlib.Core.Path.{sym, ap₂, _∙_}
 use mathlib.Core.Bool.{Bool}
 use mathlib.Core.List.{List}
-use lib.ListN.{length}
 use denote.Ref.{now}
-use Rattle.numbers.specs.Lists.{entry}
 use Rattle.rules.specs.declared.book.Book.{Book}
 use Rattle.rules.specs.Book.{heldSections}
 use Rattle.rules.specs.Expiry.Passes.{Pair, pairOf, earlierPair}
@@ -14,10 +12,6 @@ use Rattle.stages.specs.Pairs.{pairsIn}
 use Rattle.stages.proofs.Laws.{Scan, scan-start, scan-next, scan-end, lotsIn, lots-length, lots-at, pair-at}
 use Rattle.stages.proofs.largest.pair.Statement.{statement}
 use Rattle.stages.proofs.largest.pair.Tie as tie
-use Rattle.stages.proofs.largest.pair.Reads as reads
-use Rattle.stages.proofs.largest.pair.Lts as lts
-use Rattle.stages.proofs.largest.earlier_pair.Reads as earlier-pair-reads
-use Rattle.stages.proofs.largest.leader.Reads as leader-reads
 
 abbrev earlier : Book → List Pair → ℕ → ℕ → Bool
 earlier b ps i j = earlierPair (heldSections b) (pairOf ps i) (pairOf ps j)
@@ -28,48 +22,38 @@ Inv-loop b buyers elevators lots count best₀ i₀ best i = Scan (earlier b (pa
 abbrev μ-loop : tie.MeasureT-loop
 μ-loop b buyers elevators lots count best₀ i₀ best i = count - i
 
--- src/largest.rt:114:5
 loop-holds : tie.Need-loop-holds Inv-loop μ-loop
 loop-holds c =
     let a = c .before .before .before .args in
     scan-start (earlier (a .b) (pairsIn (now (a .buyers)) (now (a .elevators)) (now (a .lots)) (a .count))) (lotsIn (now (a .buyers)) (now (a .elevators)) (now (a .lots)) (a .count))
 
--- src/largest.rt:115:19
 mul-own : tie.Need-mul-own Inv-loop μ-loop
 mul-own c = search needs
 
--- src/largest.rt:115:19
 shared-slice-read-own : tie.Need-shared-slice-read-own Inv-loop μ-loop
 shared-slice-read-own c = search needs
 
--- src/largest.rt:116:20
 mul-most : tie.Need-mul-most Inv-loop μ-loop
 mul-most c = search needs
 
--- src/largest.rt:116:20
 shared-slice-read-most : tie.Need-shared-slice-read-most Inv-loop μ-loop
 shared-slice-read-most c = search needs
 
--- src/largest.rt:117:13
 earlier-pair-requires : tie.Need-earlier-pair-requires Inv-loop μ-loop
 earlier-pair-requires c κs =
     let at = c .before .before .before in
     let start = at .before .before .before .before in
     ((start .pre .0 .0, omega arith, omega arith, omega arith, omega arith), (start .pre .1 (at .loop .i) (omega arith), start .pre .1 (at .loop .best) (omega arith)))
 
--- src/largest.rt:118:9
 leader-requires : tie.Need-leader-requires Inv-loop μ-loop
 leader-requires c κs = search needs
 
--- src/largest.rt:119:9
 add-i : tie.Need-add-i Inv-loop μ-loop
 add-i c = search needs
 
--- src/largest.rt:114:5
 loop-less : tie.Need-loop-less Inv-loop μ-loop
 loop-less c = search needs
 
--- src/largest.rt:114:5
 loop-again : tie.Need-loop-again Inv-loop μ-loop
 loop-again c =
     let at = c .before .before .before .before .before in
@@ -88,7 +72,6 @@ loop-again c =
     (c .before .earlier-pair .ensures ∙ sym (ap₂ (earlierPair (heldSections (a .b))) (pair-at bs es ls (a .count) i below) (pair-at bs es ls (a .count) best below′)))
     (c .leader .ensures)
 
--- src/largest.rt:107:1
 returns : tie.Need-returns Inv-loop μ-loop
 returns c =
     let at = c .before in

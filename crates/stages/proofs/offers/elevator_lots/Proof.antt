@@ -1,7 +1,8 @@
+-- The loop's invariant: the first e entries are the sums at their elevators, and the others are as they were.
 use borrow.Author.Needs.{needs}
-use Prim.Native.Nat.{ℕ, _+_, _-_, _≤_}
+use Prim.Native.Nat.{ℕ, _-_, _≤_}
 use native.Mathlib.Omega.{arith}
-use mathlib.Core.Path.{_≡_, sym, ap, _∙_}
+use mathlib.Core.Path.{_≡_, ap, _∙_}
 use mathlib.Core.List.{List}
 use lib.ListN.{length, set}
 use denote.Ref.{now}
@@ -13,9 +14,6 @@ use Rattle.rules.specs.Expiry.Passes.{offers, elevatorLots}
 use Rattle.giving.proofs.Laws.{filled, filled-start, filled-next, filled-length, filled-end}
 use Rattle.stages.proofs.offers.elevator_lots.Statement.{statement}
 use Rattle.stages.proofs.offers.elevator_lots.Tie as tie
-use Rattle.stages.proofs.offers.elevator_lots.Reads as reads
-use Rattle.stages.proofs.offers.elevator_lots.Lts as lts
-use Rattle.stages.proofs.offers.offered.Reads as offered-reads
 
 abbrev at-elevator : Book → List ℕ → ℕ → ℕ
 at-elevator b drawn e = total (offers (filedNotices b) drawn e)
@@ -32,31 +30,24 @@ same-places c =
     let a = start .args in
     ap length (c .loop .inv .1) ∙ filled-length (at-elevator (a .b) (now (a .drawn))) (now (a .out)) (c .loop .e) (omega (arith, start .pre .1, c .loop .inv .0))
 
--- src/offers.rt:47:5
 loop-holds : tie.Need-loop-holds Inv-loop μ-loop
 loop-holds c = (omega arith, filled-start (at-elevator (c .before .before .args .b) (now (c .before .before .args .drawn))) (now (c .before .before .args .out)))
 
--- src/offers.rt:48:18
 offered-requires : tie.Need-offered-requires Inv-loop μ-loop
 offered-requires c κs = search needs
 
--- src/offers.rt:48:9
 mul-out : tie.Need-mul-out Inv-loop μ-loop
 mul-out c = search needs
 
--- src/offers.rt:48:9
 slice-write-out : tie.Need-slice-write-out Inv-loop μ-loop
 slice-write-out c = omega (arith, same-places (c .before .before))
 
--- src/offers.rt:49:9
 add-e : tie.Need-add-e Inv-loop μ-loop
 add-e c = search needs
 
--- src/offers.rt:47:5
 loop-less : tie.Need-loop-less Inv-loop μ-loop
 loop-less c = search needs
 
--- src/offers.rt:47:5
 loop-again : tie.Need-loop-again Inv-loop μ-loop
 loop-again c =
     let at = c .before .before in
@@ -65,11 +56,9 @@ loop-again c =
     let f = at-elevator (a .b) (now (a .drawn)) in
     (omega arith, ap (set (at .loop .out) (at .loop .e)) (c .offered .ensures) ∙ ap (λ (xs : List ℕ). set xs (at .loop .e) (f (at .loop .e))) (at .loop .inv .1) ∙ filled-next f (now (a .out)) (at .loop .e) (omega (arith, start .pre .1)))
 
--- src/offers.rt:41:1
 same-length : tie.Need-same-length Inv-loop μ-loop
 same-length c = same-places (c .before)
 
--- src/offers.rt:41:1
 returns : tie.Need-returns Inv-loop μ-loop
 unfolding elevatorLots
 returns c =

@@ -7,37 +7,28 @@ use Rattle.stages.proofs.Laws.{offer-at}
 use borrow.Author.Needs.{needs}
 use Rattle.stages.proofs.offers.offer.Statement.{statement}
 use Rattle.stages.proofs.offers.offer.Tie as tie
-use Rattle.stages.proofs.offers.offer.Reads as reads
-use Rattle.stages.proofs.offers.offer.Lts as lts
 
--- src/offers.rt:17:13
 mul-n : tie.Need-mul-n
 mul-n c = search needs
 
--- src/offers.rt:17:13
 element-copy-out-n : tie.Need-element-copy-out-n
 element-copy-out-n c = omega (arith, facts _ (c .pre .0) .filed)
 
--- src/offers.rt:18:18
 cast-stands : tie.Need-cast-stands
 cast-stands c = search needs
 
--- src/offers.rt:20:16
 mul-result : tie.Need-mul-result
 mul-result c = search needs
 
--- src/offers.rt:20:16
 shared-slice-read-result : tie.Need-shared-slice-read-result
 shared-slice-read-result c = search needs
 
--- src/offers.rt:20:9
 returns : tie.Need-returns
 returns c =
     let start = c .before .before .before .before in
     let a = start .args in
     sym (offer-at (a .t1) (start .pre .0) (now (a .drawn)) (a .elevator) (a .k) (start .pre .2) ∙ chosen-yes _ _ _ _ (c .before .if1 .taken))
 
--- src/offers.rt:13:1
 returns-2 : tie.Need-returns-2
 returns-2 c =
     let start = c .before .before .before in

@@ -1,5 +1,6 @@
+-- The loop's invariant: the sum is that of the first k notices.
 use borrow.Author.Needs.{needs}
-use Prim.Native.Nat.{ℕ, _+_, _-_, _*_, _≤_}
+use Prim.Native.Nat.{_+_, _-_, _*_, _≤_}
 use native.Mathlib.Omega.{arith}
 use mathlib.Core.Path.{_≡_, sym, ap₂, _∙_}
 use denote.Ref.{now}
@@ -7,9 +8,6 @@ use Rattle.book.proofs.Good.{facts}
 use Rattle.stages.proofs.Laws.{offeredSoFar, offered-none, offered-next, offered-all, offer-within}
 use Rattle.stages.proofs.offers.offered.Statement.{statement}
 use Rattle.stages.proofs.offers.offered.Tie as tie
-use Rattle.stages.proofs.offers.offered.Reads as reads
-use Rattle.stages.proofs.offers.offered.Lts as lts
-use Rattle.stages.proofs.offers.offer.Reads as offer-reads
 
 abbrev Inv-loop : tie.InvT-loop
 Inv-loop b drawn elevator filed sum₀ k₀ sum k = (k ≤ b .filed) × (sum ≤ 1_000_000 * k) × (sum ≡ offeredSoFar b drawn elevator k)
@@ -17,18 +15,15 @@ Inv-loop b drawn elevator filed sum₀ k₀ sum k = (k ≤ b .filed) × (sum ≤
 abbrev μ-loop : tie.MeasureT-loop
 μ-loop b drawn elevator filed sum₀ k₀ sum k = filed - k
 
--- src/offers.rt:33:5
 loop-holds : tie.Need-loop-holds Inv-loop μ-loop
 loop-holds c =
     let start = c .before in
     let a = start .args in
     (omega arith, omega arith, sym (offered-none (a .b) (start .pre .0) (now (a .drawn)) (a .elevator)))
 
--- src/offers.rt:34:16
 offer-requires : tie.Need-offer-requires Inv-loop μ-loop
 offer-requires c κs = search needs
 
--- src/offers.rt:34:9
 add-sum : tie.Need-add-sum Inv-loop μ-loop
 add-sum c =
     let start = c .before .before .before .before in
@@ -36,15 +31,12 @@ add-sum c =
     let k = c .before .before .loop .k in
     omega (arith, facts _ (start .pre .0) .filed, c .offer .ensures, offer-within (a .b) (start .pre .0) (now (a .drawn)) (a .elevator) k, start .pre .2 k)
 
--- src/offers.rt:35:9
 add-k : tie.Need-add-k Inv-loop μ-loop
 add-k c = search needs
 
--- src/offers.rt:33:5
 loop-less : tie.Need-loop-less Inv-loop μ-loop
 loop-less c = search needs
 
--- src/offers.rt:33:5
 loop-again : tie.Need-loop-again Inv-loop μ-loop
 loop-again c =
     let at = c .before .before in
@@ -56,7 +48,6 @@ loop-again c =
       ap₂ _+_ (at .loop .inv .2) (c .offer .ensures) ∙ sym (offered-next (a .b) (start .pre .0) (now (a .drawn)) (a .elevator) k (omega arith)),
     )
 
--- src/offers.rt:26:1
 returns : tie.Need-returns Inv-loop μ-loop
 returns c =
     let at = c .before in
