@@ -1,18 +1,28 @@
 // The place of most lots, among equal ones by the paper's keys.
 ghost use mathlib.Core.Path.{_≡_};
-ghost use mathlib.Core.Bool.{true};
+ghost use mathlib.Core.Bool.{true, cond, _&&_, _||_};
 ghost use mathlib.Core.List.{map};
 ghost use Prim.Native.Nat.{ℕ, _≤_, _<_};
-ghost use lib.Dec.{ltb};
+ghost use lib.Dec.{ltb, eqb};
 ghost use lib.ListN.{length};
 ghost use Rattle.numbers.specs.Lists.{entry, largest};
 ghost use Rattle.rules.specs.Book.{good, heldSections, filedNotices, noticeOf};
 ghost use Rattle.rules.specs.Expiry;
 ghost use Rattle.rules.specs.Expiry.Passes;
 ghost use Rattle.stages.specs.Pairs.{pairsIn};
 use crate::offers;
 use orders::sections;
 use rules::book::Book;
+
+// Of two places the one with more lots, and of equal ones the first if it comes earlier.
+fn leader(i: usize, own: u64, best: usize, most: u64, earlier: bool) -> usize
+    ensures { λ r. ⌜ r ≡ cond (ltb most own || eqb most own && earlier) i best ⌝ }
+{
+    if (most < own) | ((most == own) & earlier) {
+        return i;
+    }
+    best
+}
 
 // The buyer section with most lots; ties: lower section code.
 pub fn buyer(b: Book, lots: &[u64]) -> usize
@@ -23,15 +33,10 @@ pub fn buyer(b: Book, lots: &[u64]) -> usize
     let mut best = 0;
     let mut i = 0;
     while i < all {
-        let most = lots[best];
         let own = lots[i];
-        if most < own {
-            best = i;
-        } else if most == own {
-            if sections::lower_code(b, i, best) {
-                best = i;
-            }
-        }
+        let most = lots[best];
+        let earlier = sections::lower_code(b, i, best);
+        best = leader(i, own, best, most, earlier);
         i += 1;
     }
     best
@@ -45,12 +50,25 @@ pub fn elevator(lots: &[u64]) -> usize
     let mut best = 0;
     let mut i = 0;
     while i < all {
-        if lots[best] < lots[i] {
-            best = i;
-        }
+        let own = lots[i];
+        let most = lots[best];
+        let earlier = i < best;
+        best = leader(i, own, best, most, earlier);
         i += 1;
     }
     best
+}
+
+// Whether the seller of notice i has a lower section code than that of notice j.
+fn earlier_notice(b: Book, i: usize, j: usize) -> bool
+    requires { ⌜ (good b ≡ true) × (i < b .filed) × (j < b .filed) ⌝ }
+    ensures { λ r. ⌜ r ≡ Expiry.lowerCode (heldSections b) (noticeOf (filedNotices b) i .section) (noticeOf (filedNotices b) j .section) ⌝ }
+{
+    let n = b.notices[i];
+    let m = b.notices[j];
+    let mine = n.section as usize;
+    let its = m.section as usize;
+    sections::lower_code(b, mine, its)
 }
 
 // The notice with most lots at an elevator; ties: lower seller section code.
@@ -62,19 +80,10 @@ pub fn notice(b: Book, drawn: &[u64], elevator: usize) -> usize
     let mut best = 0;
     let mut i = 0;
     while i < all {
-        let most = offers::offer(b, drawn, elevator, best);
         let own = offers::offer(b, drawn, elevator, i);
-        if most < own {
-            best = i;
-        } else if most == own {
-            let n = b.notices[i];
-            let m = b.notices[best];
-            let its = n.section as usize;
-            let other = m.section as usize;
-            if sections::lower_code(b, its, other) {
-                best = i;
-            }
-        }
+        let most = offers::offer(b, drawn, elevator, best);
+        let earlier = earlier_notice(b, i, best);
+        best = leader(i, own, best, most, earlier);
         i += 1;
     }
     best
@@ -88,10 +97,10 @@ fn earlier_pair(b: Book, buyers: &[usize], elevators: &[usize], i: usize, j: usi
 {
     let mine = buyers[i];
     let its = buyers[j];
-    if mine == its {
-        return elevators[i] < elevators[j];
-    }
-    sections::lower_code(b, mine, its)
+    let stands = elevators[i];
+    let other = elevators[j];
+    let lower = sections::lower_code(b, mine, its);
+    lower | ((mine == its) & (stands < other))
 }
 
 // The pair with most lots, of the first `count`; ties: lower buyer section code, then lower elevator.
@@ -103,15 +112,10 @@ pub fn pair(b: Book, buyers: &[usize], elevators: &[usize], lots: &[u64], count:
     let mut best = 0;
     let mut i = 0;
     while i < count {
-        let most = lots[best];
         let own = lots[i];
-        if most < own {
-            best = i;
-        } else if most == own {
-            if earlier_pair(b, buyers, elevators, i, best) {
-                best = i;
-            }
-        }
+        let most = lots[best];
+        let earlier = earlier_pair(b, buyers, elevators, i, best);
+        best = leader(i, own, best, most, earlier);
         i += 1;
     }
     best

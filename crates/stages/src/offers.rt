@@ -5,7 +5,7 @@ ghost use Prim.Native.Nat.{ℕ, _≤_, _<_};
 ghost use lib.ListN.{length};
 ghost use Rattle.numbers.specs.Lists.{entry};
 ghost use Rattle.numbers.specs.Sums.{total};
-ghost use Rattle.rules.specs.Book.{good, filedNotices};
+ghost use Rattle.rules.specs.Book.{good, filedNotices, noticeOf};
 ghost use Rattle.rules.specs.Expiry.Passes;
 use rules::book::Book;
 
@@ -20,6 +20,15 @@ pub fn offer(b: Book, drawn: &[u64], elevator: usize, k: usize) -> u64
         return drawn[k];
     }
     0
+}
+
+// The section that filed notice k.
+pub fn seller(b: Book, k: usize) -> u8
+    requires { ⌜ (good b ≡ true) × (k < b .filed) ⌝ }
+    ensures { λ r. ⌜ r ≡ noticeOf (filedNotices b) k .section ⌝ }
+{
+    let n = b.notices[k];
+    n.section
 }
 
 // The sum at an elevator.
