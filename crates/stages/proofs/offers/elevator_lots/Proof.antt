@@ -11,7 +11,7 @@ use Rattle.numbers.specs.Lists.{listed}
 use Rattle.rules.specs.declared.book.Book.{Book}
 use Rattle.rules.specs.Book.{filedNotices}
 use Rattle.rules.specs.Expiry.Passes.{offers, elevatorLots}
-use Rattle.giving.proofs.Laws.{filled, filled-start, filled-next, filled-length, filled-end}
+use Rattle.numbers.proofs.Filled.{partly, partly-start, partly-next, partly-length, partly-end}
 use Rattle.stages.proofs.offers.elevator_lots.Statement.{statement}
 use Rattle.stages.proofs.offers.elevator_lots.Tie as tie
 
@@ -19,7 +19,7 @@ abbrev at-elevator : Book → List ℕ → ℕ → ℕ
 at-elevator b drawn e = total (offers (filedNotices b) drawn e)
 
 abbrev Inv-loop : tie.InvT-loop
-Inv-loop b drawn out₀ e₀ out e = (e ≤ 32) × (out ≡ filled (at-elevator b drawn) out₀ e)
+Inv-loop b drawn out₀ e₀ out e = (e ≤ 32) × (out ≡ partly (at-elevator b drawn) out₀ e)
 
 abbrev μ-loop : tie.MeasureT-loop
 μ-loop b drawn out₀ e₀ out e = 32 - e
@@ -28,10 +28,10 @@ same-places : (c : tie.At-loop Inv-loop μ-loop) → length (c .loop .out) ≡ l
 same-places c =
     let start = c .before .before .before in
     let a = start .args in
-    ap length (c .loop .inv .1) ∙ filled-length (at-elevator (a .b) (now (a .drawn))) (now (a .out)) (c .loop .e) (omega (arith, start .pre .1, c .loop .inv .0))
+    ap length (c .loop .inv .1) ∙ partly-length (at-elevator (a .b) (now (a .drawn))) (now (a .out)) (c .loop .e) (omega (arith, start .pre .1, c .loop .inv .0))
 
 loop-holds : tie.Need-loop-holds Inv-loop μ-loop
-loop-holds c = (omega arith, filled-start (at-elevator (c .before .before .args .b) (now (c .before .before .args .drawn))) (now (c .before .before .args .out)))
+loop-holds c = (omega arith, partly-start (at-elevator (c .before .before .args .b) (now (c .before .before .args .drawn))) (now (c .before .before .args .out)))
 
 offered-requires : tie.Need-offered-requires Inv-loop μ-loop
 offered-requires c κs = search needs
@@ -54,7 +54,7 @@ loop-again c =
     let start = at .before .before .before in
     let a = start .args in
     let f = at-elevator (a .b) (now (a .drawn)) in
-    (omega arith, ap (set (at .loop .out) (at .loop .e)) (c .offered .ensures) ∙ ap (λ (xs : List ℕ). set xs (at .loop .e) (f (at .loop .e))) (at .loop .inv .1) ∙ filled-next f (now (a .out)) (at .loop .e) (omega (arith, start .pre .1)))
+    (omega arith, ap (set (at .loop .out) (at .loop .e)) (c .offered .ensures) ∙ ap (λ (xs : List ℕ). set xs (at .loop .e) (f (at .loop .e))) (at .loop .inv .1) ∙ partly-next f (now (a .out)) (at .loop .e) (omega (arith, start .pre .1)))
 
 same-length : tie.Need-same-length Inv-loop μ-loop
 same-length c = same-places (c .before)
@@ -67,7 +67,7 @@ returns c =
     let a = start .args in
     let f = at-elevator (a .b) (now (a .drawn)) in
     let all : at .loop .e ≡ 32 = omega arith in
-    at .loop .inv .1 ∙ filled-end f (now (a .out)) (at .loop .e) (omega (arith, start .pre .1)) ∙ ap (λ (n : ℕ). listed n f) all
+    at .loop .inv .1 ∙ partly-end f (now (a .out)) (at .loop .e) (omega (arith, start .pre .1)) ∙ ap (λ (n : ℕ). listed n f) all
 
 pub elevator-lots-spec : {M : Type 1} → statement M
 elevator-lots-spec =
