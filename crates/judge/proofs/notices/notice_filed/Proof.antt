@@ -10,7 +10,7 @@ use lib.ListN.{length, drop}
 use Rattle.numbers.specs.Lists.{_and_}
 use Rattle.numbers.proofs.Lists.{length-mapped, Has, some-next, some-stop, some-end}
 use Rattle.rules.specs.Book.{filedNotices, noticeAt}
-use Rattle.book.proofs.Held.{filed-length, has-notice}
+use Rattle.book_laws.proofs.Held.{filed-length, has-notice}
 use Rattle.rules.specs.declared.book.Notice.{Notice}
 use Rattle.rules.specs.Calls.{noticeFiled}
 use borrow.Author.Needs.{needs}

@@ -5,7 +5,7 @@ use lib.ListN.{length, drop}
 use Rattle.numbers.specs.Lists.{apart}
 use Rattle.numbers.proofs.Lists.{length-mapped, Has, apart-next, apart-stop, apart-end}
 use Rattle.rules.specs.Book.{filedNotices, noticeAt, noticesAlike}
-use Rattle.book.proofs.Held.{filed-length, has-notice}
+use Rattle.book_laws.proofs.Held.{filed-length, has-notice}
 use borrow.Author.Needs.{needs}
 use Rattle.judge.proofs.notices.notices_apart.Statement.{statement}
 use Rattle.judge.proofs.notices.notices_apart.Tie as tie

@@ -6,7 +6,7 @@ use Rattle.numbers.specs.Lists.{every}
 use Rattle.numbers.proofs.Tests.{failed, passed}
 use Rattle.numbers.proofs.Lists.{length-mapped, Has, every-next, every-stop, every-end}
 use Rattle.rules.specs.Book.{filedNotices, noticeAt, noticeGood}
-use Rattle.book.proofs.Held.{filed-length, has-notice}
+use Rattle.book_laws.proofs.Held.{filed-length, has-notice}
 use borrow.Author.Needs.{needs}
 use Rattle.judge.proofs.notices.notices_within.Statement.{statement}
 use Rattle.judge.proofs.notices.notices_within.Tie as tie

@@ -5,7 +5,7 @@ use lib.ListN.{length, drop}
 use Rattle.numbers.specs.Bytes.{same}
 use Rattle.numbers.proofs.Lists.{length-mapped, Has, some-next, some-stop, some-end}
 use Rattle.rules.specs.Book.{heldSections, sectionAt}
-use Rattle.book.proofs.Held.{held-length, has-section}
+use Rattle.book_laws.proofs.Held.{held-length, has-section}
 use Rattle.rules.specs.declared.book.Section.{Section}
 use Rattle.rules.specs.Calls.{codeHeld}
 use borrow.Author.Needs.{needs}

@@ -5,7 +5,7 @@ use lib.ListN.{length, drop}
 use Rattle.numbers.specs.Lists.{apart}
 use Rattle.numbers.proofs.Lists.{length-mapped, Has, apart-next, apart-stop, apart-end}
 use Rattle.rules.specs.Book.{heldSections, sectionAt, codesAlike}
-use Rattle.book.proofs.Held.{held-length, has-section}
+use Rattle.book_laws.proofs.Held.{held-length, has-section}
 use borrow.Author.Needs.{needs}
 use Rattle.judge.proofs.sections.codes_apart.Statement.{statement}
 use Rattle.judge.proofs.sections.codes_apart.Tie as tie

@@ -6,7 +6,7 @@ use Rattle.numbers.specs.Lists.{every}
 use Rattle.numbers.proofs.Tests.{failed, passed}
 use Rattle.numbers.proofs.Lists.{length-mapped, Has, every-next, every-stop, every-end}
 use Rattle.rules.specs.Book.{heldSections, sectionAt, sectionGood}
-use Rattle.book.proofs.Held.{held-length, has-section}
+use Rattle.book_laws.proofs.Held.{held-length, has-section}
 use borrow.Author.Needs.{needs}
 use Rattle.judge.proofs.sections.sections_within.Statement.{statement}
 use Rattle.judge.proofs.sections.sections_within.Tie as tie

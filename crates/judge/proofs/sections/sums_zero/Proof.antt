@@ -13,8 +13,8 @@ use Rattle.numbers.proofs.Sums.{Running, running-none, running-end, running-fit
 use Rattle.numbers.proofs.Tests.{failed, passed}
 use Rattle.numbers.proofs.Lists.{length-mapped, Has, every-has}
 use Rattle.rules.specs.Book.{heldSections, sectionAt, positionOf, basisOf, sectionGood}
-use Rattle.book.proofs.Good.{section-facts}
-use Rattle.book.proofs.Held.{held-length, has-section}
+use Rattle.book_laws.proofs.Good.{section-facts}
+use Rattle.book_laws.proofs.Held.{held-length, has-section}
 use borrow.Author.Needs.{needs}
 use Rattle.judge.proofs.sections.sums_zero.Statement.{statement}
 use Rattle.judge.proofs.sections.sums_zero.Tie as tie

@@ -1,0 +1,102 @@
+-- What a session does, by section number.
+use Prim.Native.Nat.{ℕ, _≤_, _<_}
+use native.Mathlib.Omega.{arith}
+use mathlib.Core.Path.{_≡_, refl, sym, ap, _∙_}
+use mathlib.Core.Logic.{⊎-elim}
+use mathlib.Core.List.{List, [], map}
+use lib.ListN.{getD, length-map, List·getD-eq-default}
+use lib.Seq.{getD-take}
+use lib.IntN.{pos}
+use Rattle.numbers.proofs.Tests.{below-or-not}
+use Rattle.numbers.proofs.Changed.{read-at, same-rest}
+use Rattle.rules.specs.declared.book.Book.{Book}
+use Rattle.rules.specs.declared.book.Section.{Section}
+use Rattle.rules.specs.Units.{worth}
+use Rattle.rules.specs.Book.{positionOf, basisOf, heldSections, sectionAt, sectionOfNoughts, valueAt}
+use Rattle.rules.specs.Calls.{settled, marginOf, margins, following, afterSession}
+use Rattle.book_laws.proofs.Good.{Good}
+use Rattle.book_laws.proofs.Held.{held-length}
+use Rattle.book_laws.proofs.Kept.Session.{settled-held, settled-rest}
+use Rattle.book_laws.proofs.Effects.Same.{SameTerms, SameNotices, SameHolder}
+
+-- entry i of what f makes of the sections held
+held-read : {A : Type 0} (f : Section → A) (b : Book) → Good b → (i : ℕ) (d : A) → i < b .held → getD (map f (heldSections b)) i d ≡ f (sectionAt b i)
+held-read f b book i d h =
+    read-at f (heldSections b) i (sectionOfNoughts []) d (omega (arith, held-length b (book .section-places) (book .held)))
+    ∙ ap f (getD-take (b .held) (b .sections) i (sectionOfNoughts []) h)
+
+module _ (b : Book) (price : ℕ) (book : Good b) where
+  pub session-section : (i : ℕ) → i < b .held → sectionAt (afterSession b price) i ≡ settled (valueAt b price) (sectionAt b i)
+  unfolding afterSession
+  session-section i h =
+      sym (getD-take (b .held) (afterSession b price .sections) i (sectionOfNoughts []) h)
+      ∙ ap (λ (xs : List Section). getD xs i (sectionOfNoughts [])) (settled-held b price book)
+      ∙ held-read (settled (valueAt b price)) b book i (sectionOfNoughts []) h
+
+  -- places not held stay as they were
+  pub session-rest : (i : ℕ) → b .held ≤ i → sectionAt (afterSession b price) i ≡ sectionAt b i
+  session-rest i h = same-rest (afterSession b price .sections) (b .sections) (b .held) i (sectionOfNoughts []) (settled-rest b price book) h
+
+  -- the margin of section i stands at entry i
+  pub margin-at : (i : ℕ) → i < b .held → getD (margins b price) i (pos 0) ≡ marginOf (valueAt b price) (sectionAt b i)
+  unfolding margins
+  margin-at i h = held-read (marginOf (valueAt b price)) b book i (pos 0) h
+
+  -- past the sections held there is none
+  pub margin-past : (i : ℕ) → b .held ≤ i → getD (margins b price) i (pos 0) ≡ pos 0
+  unfolding margins
+  margin-past i h =
+      List·getD-eq-default (map (marginOf (valueAt b price)) (heldSections b)) (pos 0)
+      (omega (arith, length-map (heldSections b) (marginOf (valueAt b price)), held-length b (book .section-places) (book .held)))
+
+  -- "basis becomes position·V(price)", and nothing else of any section changes
+  pub session-basis : (i : ℕ) → i < b .held → basisOf (sectionAt (afterSession b price) i) ≡ worth (sectionAt b i .position) (valueAt b price) .0
+  unfolding settled
+  session-basis i h = ap basisOf (session-section i h)
+
+  pub session-read : {A : Type 0} (f : Section → A) → ((s : Section) → f (settled (valueAt b price) s) ≡ f s) → (i : ℕ) → f (sectionAt (afterSession b price) i) ≡ f (sectionAt b i)
+  session-read f e i = ⊎-elim (λ h. ap f (session-section i h) ∙ e (sectionAt b i)) (λ h. ap f (session-rest i h)) (below-or-not i (b .held))
+
+  pub session-position : (i : ℕ) → positionOf (sectionAt (afterSession b price) i) ≡ positionOf (sectionAt b i)
+  unfolding settled
+  session-position = session-read positionOf (λ s. refl)
+
+  pub session-holder : (i : ℕ) → SameHolder (sectionAt (afterSession b price) i) (sectionAt b i)
+  unfolding settled
+  session-holder i =
+      record {
+        settlement = session-read (λ (s : Section). s .settlement) (λ s. refl) i;
+        code = session-read (λ (s : Section). s .code) (λ s. refl) i;
+        participant = session-read (λ (s : Section). s .participant) (λ s. refl) i;
+        seller = session-read (λ (s : Section). s .seller) (λ s. refl) i;
+      }
+
+  pub session-met : (i : ℕ) → sectionAt (afterSession b price) i .met ≡ sectionAt b i .met
+  unfolding settled
+  session-met = session-read (λ (s : Section). s .met) (λ s. refl)
+
+-- of the book itself only the session and the count of trades change
+module _ (b : Book) (price : ℕ) where
+  pub session-terms : SameTerms (afterSession b price) b
+  unfolding afterSession
+  session-terms = record { lot = refl; w = refl; r = refl; expired = refl }
+
+  pub session-notices : SameNotices (afterSession b price) b
+  unfolding afterSession
+  session-notices = record { notices = refl; filed = refl }
+
+  pub session-held : afterSession b price .held ≡ b .held
+  unfolding afterSession
+  session-held = refl
+
+  pub session-kind : afterSession b price .last ≡ following (b .last)
+  unfolding afterSession
+  session-kind = refl
+
+  pub session-price : afterSession b price .price ≡ price
+  unfolding afterSession
+  session-price = refl
+
+  pub session-count : afterSession b price .trades ≡ 0
+  unfolding afterSession
+  session-count = refl

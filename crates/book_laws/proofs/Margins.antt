@@ -1,0 +1,29 @@
+-- The margins of an accepted session sum to zero, because positions and bases do.
+use Prim.Native.Nat.{ℕ}
+use mathlib.Core.Path.{_≡_, ap, ap₂, _∙_}
+use mathlib.Core.List.{map}
+use lib.IntN.{ℤ, pos, _-ℤ_, _*ℤ_, zero-*ℤ}
+use Rattle.numbers.specs.Sums.{totalℤ}
+use Rattle.numbers.proofs.Sums.{total-product, total-difference}
+use Rattle.rules.specs.declared.book.Book.{Book}
+use Rattle.rules.specs.declared.book.Section.{Section}
+use Rattle.rules.specs.Units.{worth}
+use Rattle.rules.specs.Value.{factor, value, valueOf}
+use Rattle.rules.specs.Book.{positionOf, basisOf, heldSections, valueAt}
+use Rattle.rules.specs.Calls.{sessionNumber, marginOf, margins}
+use Rattle.book_laws.proofs.Accepted.{session}
+use Rattle.book_laws.proofs.Good.{Good}
+
+-- what the positions are worth at a price sums to V times their sum
+pub worths-sum : (b : Book) (price : ℕ) → Good b → totalℤ (map (λ (s : Section). worth (s .position) (valueAt b price) .0) (heldSections b)) ≡ pos 0
+unfolding worth valueOf
+worths-sum b price book =
+    let v = value (factor (b .w) (b .r)) price in
+    total-product positionOf v (heldSections b) ∙ ap (λ (z : ℤ). z *ℤ pos v) (book .positions) ∙ zero-*ℤ (pos v)
+
+pub margins-sum : (b : Book) (price room : ℕ) → sessionNumber b price room ≡ 0 → totalℤ (margins b price) ≡ pos 0
+unfolding margins marginOf
+margins-sum b price room e =
+    let book = session b price room e .book in
+    total-difference (λ (s : Section). worth (s .position) (valueAt b price) .0) basisOf (heldSections b)
+    ∙ ap₂ _-ℤ_ (worths-sum b price book) (book .bases)

@@ -1,6 +1,0 @@
-// Steps 1 to 4 of the method: what is delivered and terminated, and what of it goes outside.
-pub mod across;
-pub mod codes;
-pub mod ordered;
-pub mod outside;
-pub mod whole;

@@ -1,0 +1,72 @@
+// Step 3: what is left open is closed over all codes together.
+ghost use mathlib.Core.Path.{_≡_};
+ghost use mathlib.Core.Bool.{true, cond};
+ghost use Prim.Native.Nat.{ℕ, _≤_};
+ghost use lib.IntN.{natAbs, _+ℤ_};
+ghost use lib.ListN.{length, replicate};
+ghost use Rattle.numbers.specs.Lists.{entry, entryℤ, listed};
+ghost use Rattle.numbers.specs.Sums.{totalℤ};
+ghost use Rattle.rules.specs.Book.{good, heldSections};
+ghost use Rattle.rules.specs.Expiry;
+ghost use Rattle.rules.specs.Expiry.Across;
+use crate::ordered;
+use method_giving::chosen;
+use method_holding::nets;
+use rules::book::Book;
+use value::signed;
+
+// D: what is left of all D(c), summed with sign.
+pub fn left_open(gaps: &[i64], nets: &[i64]) -> i64
+    requires { ⌜ (length (now gaps) ≡ 64) × (length (now nets) ≡ 64) ⌝ }
+    requires { ⌜ ((c : ℕ) → natAbs (entryℤ (now gaps) c) ≤ 128_000_000) × ((c : ℕ) → natAbs (entryℤ (now nets) c) ≤ 128_000_000) ⌝ }
+    ensures { λ r. ⌜ r ≡ totalℤ (listed 64 (λ (c : ℕ). entryℤ (now (gaps .entry)) c +ℤ entryℤ (now (nets .entry)) c)) ⌝ }
+{
+    let mut d: i64 = 0;
+    let mut c = 0;
+    while c < 64 {
+        let gap = gaps[c];
+        let net = nets[c];
+        d = signed::sum(d, signed::sum(gap, net));
+        c += 1;
+    }
+    d
+}
+
+// A net that is opposite to d, 0 for another.
+fn cap(net: i64, d: i64) -> u64
+    ensures { λ r. ⌜ r ≡ cond (Expiry.opposed net d) (natAbs net) 0 ⌝ }
+{
+    if chosen::opposed(net, d) {
+        return signed::size(net);
+    }
+    0
+}
+
+// The net of each code that is opposite to d, 0 of all others.
+fn code_caps(d: i64, nets: &[i64], caps: &mut [u64])
+    requires { ⌜ (length (now nets) ≡ 64) × (length (now caps) ≡ 64) ⌝ }
+    ensures { λ _. ⌜ now (caps .exit) ≡ listed 64 (λ (c : ℕ). cond (Expiry.opposed (entryℤ (now (nets .entry)) c) d) (natAbs (entryℤ (now (nets .entry)) c)) 0) ⌝ }
+{
+    let mut c = 0;
+    while c < 64 {
+        let net = nets[c];
+        caps[c] = cap(net, d);
+        c += 1;
+    }
+}
+
+// What each section gives towards d; `given` is noughts at first.
+pub fn give_across(b: Book, d: i64, left: &[u64], given: &mut [u64])
+    requires { ⌜ (good b ≡ true) × (length (now left) ≡ b .held) × (now given ≡ replicate (b .held) 0) × ((i : ℕ) → entry (now left) i ≤ 1_000_000) ⌝ }
+    ensures { λ _. ⌜ now (given .exit) ≡ Across.givenAcross (heldSections b) d (now (left .entry)) ⌝ }
+{
+    let held = b.held;
+    let mut lots = [0; 128];
+    let mut caps = [0; 64];
+    let mut net = [0; 64];
+    chosen::opposed_to(b, d, left, &mut lots[..held]);
+    nets::nets(b, left, &mut net);
+    code_caps(d, &net, &mut caps);
+    let need = signed::size(d);
+    ordered::give(b, &lots[..held], false, &mut caps, need, given);
+}

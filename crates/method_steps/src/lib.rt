@@ -1,0 +1,6 @@
+// Steps 1 to 4 of the method: what is delivered and terminated, and what of it goes outside.
+pub mod across;
+pub mod codes;
+pub mod delivered;
+pub mod ordered;
+pub mod outside;

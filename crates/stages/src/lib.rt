@@ -1,5 +1,0 @@
-// The two stages of a pass (step 6): pairs of buyers and elevators, then lines of pairs and notices.
-pub mod first;
-pub mod largest;
-pub mod offers;
-pub mod second;
