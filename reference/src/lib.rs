@@ -3,14 +3,5 @@
 //! document 01, which condenses both. Quotations in the comments are document
 //! 01's sentences unless another paper is named.
 
-pub mod book;
-pub mod calls;
-pub mod demand;
-pub mod expiry;
-pub mod file;
-pub mod generate;
-pub mod listing;
-pub mod random;
-pub mod reach;
-pub mod refusal;
-pub mod value;
+pub mod reading;
+pub mod trial;

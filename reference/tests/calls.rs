@@ -4,9 +4,9 @@
 mod common;
 
 use common::{Lent, book_of, code, opened};
-use wheat_delivery::book::{Book, Notice, Section, SessionKind};
-use wheat_delivery::calls::{Counts, open};
-use wheat_delivery::refusal::Refusal;
+use wheat_delivery::reading::book::{Book, Notice, Section, SessionKind};
+use wheat_delivery::reading::calls::{Counts, open};
+use wheat_delivery::reading::refusal::Refusal;
 
 fn numbers(faults: Vec<Refusal>) -> Vec<u8> {
     faults.into_iter().map(Refusal::number).collect()

@@ -4,16 +4,18 @@ mod common;
 
 use common::{HAND_CONTRACT, entry, hand_events};
 use std::collections::BTreeSet;
-use wheat_delivery::demand::{Call, Expiry, History, Outcome, run};
-use wheat_delivery::file::{self, Event, Reader};
-use wheat_delivery::generate::{self, FULL};
-use wheat_delivery::listing::Lists;
-use wheat_delivery::refusal::Refusal;
-use wheat_delivery::value::{factor, value};
+use wheat_delivery::reading::file::event::Event;
+use wheat_delivery::reading::file::{self, Reader, whole};
+use wheat_delivery::reading::listing::Lists;
+use wheat_delivery::reading::refusal::Refusal;
+use wheat_delivery::reading::value::{factor, value};
+use wheat_delivery::trial::demand::{Call, Expiry, History, Outcome, run};
+use wheat_delivery::trial::generate;
+use wheat_delivery::trial::generate::lists::{self, FULL};
 
 /// The history of the list of calls of a seed, where it has one.
 fn history(seed: u64) -> Option<History> {
-    let (contract, calls) = generate::calls(seed, &generate::file(seed))?;
+    let (contract, calls) = lists::calls(seed, &generate::file(seed))?;
     run(contract.lot, contract.w, contract.r, &calls).unwrap()
 }
 
@@ -164,7 +166,7 @@ fn the_bytes_of_each_accepted_file_are_those_of_the_writer() {
     for seed in 0..1_600 {
         let bytes = generate::file(seed);
         let mut lists = Lists::full();
-        let reading = file::read(&bytes, lists.lend());
+        let reading = whole::read(&bytes, lists.lend());
         if reading.answer.is_err() {
             continue;
         }
@@ -208,7 +210,7 @@ fn a_read_answers_as_its_events_called_one_by_one() {
             None => (Some(Refusal::NoExpiryLast), n),
         };
         let mut lists = Lists::full();
-        let reading = file::read(&bytes, lists.lend());
+        let reading = whole::read(&bytes, lists.lend());
         assert_eq!((reading.answer.err(), reading.place), wanted, "seed {seed}");
     }
 }

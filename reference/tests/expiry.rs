@@ -3,8 +3,8 @@
 mod common;
 
 use common::{book_of, expire};
-use wheat_delivery::calls::Counts;
-use wheat_delivery::expiry::settle;
+use wheat_delivery::reading::calls::Counts;
+use wheat_delivery::reading::expiry::settle;
 
 #[test]
 fn a_book_without_sections_expires_with_no_line() {

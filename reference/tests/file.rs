@@ -5,13 +5,14 @@ mod common;
 use common::{
     HAND_CONTRACT, HAND_LISTING, condition, hand_events, notice, section, session, trade,
 };
-use wheat_delivery::book::Book;
-use wheat_delivery::file::{
-    EVENTS, Event, Reader, Reading, decode, encode, events_in, length, read, write, write_event,
-    write_sizes,
+use wheat_delivery::reading::book::Book;
+use wheat_delivery::reading::file::event::{Event, decode, encode};
+use wheat_delivery::reading::file::whole::{Reading, read};
+use wheat_delivery::reading::file::{
+    EVENTS, Reader, events_in, length, write, write_event, write_sizes,
 };
-use wheat_delivery::listing::{Lists, listing};
-use wheat_delivery::refusal::Refusal;
+use wheat_delivery::reading::listing::{Lists, listing};
+use wheat_delivery::reading::refusal::Refusal;
 
 fn hand_file() -> Vec<u8> {
     let (lot, w, r) = HAND_CONTRACT;

@@ -1,10 +1,11 @@
 //! The generator: the same seed gives the same bytes, and it reaches what it
 //! should.
 
-use wheat_delivery::file::events_in;
-use wheat_delivery::generate::{Kind, calls, file, kind};
-use wheat_delivery::random::Random;
-use wheat_delivery::reach::Reach;
+use wheat_delivery::reading::file::events_in;
+use wheat_delivery::trial::generate::lists::calls;
+use wheat_delivery::trial::generate::{Kind, file, kind};
+use wheat_delivery::trial::random::Random;
+use wheat_delivery::trial::reach::Reach;
 
 /// FNV-1a over the files of some seeds.
 fn digest(seeds: std::ops::Range<u64>) -> u64 {

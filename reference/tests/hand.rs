@@ -3,12 +3,13 @@
 mod common;
 
 use common::{HAND_CONTRACT, HAND_LISTING, book_of, expire, hand_events, opened};
-use wheat_delivery::calls::{Counts, open};
-use wheat_delivery::expiry::{Buyer, Offer, settle, stage_one};
-use wheat_delivery::file::write;
-use wheat_delivery::listing::listing;
-use wheat_delivery::refusal::Refusal;
-use wheat_delivery::value::{factor, value};
+use wheat_delivery::reading::calls::{Counts, open};
+use wheat_delivery::reading::expiry::passes::stage_one;
+use wheat_delivery::reading::expiry::{Buyer, Offer, settle};
+use wheat_delivery::reading::file::write;
+use wheat_delivery::reading::listing::listing;
+use wheat_delivery::reading::refusal::Refusal;
+use wheat_delivery::reading::value::{factor, value};
 
 #[test]
 fn w_1_r_3_has_factor_33333_and_its_top_price_is_worth_3333300() {

@@ -6,9 +6,9 @@ use common::{HAND_CONTRACT, HAND_LISTING, hand_events};
 use std::io::Write;
 use std::path::PathBuf;
 use std::process::{Command, Output, Stdio};
-use wheat_delivery::file::write;
-use wheat_delivery::generate;
-use wheat_delivery::listing::listing;
+use wheat_delivery::reading::file::write;
+use wheat_delivery::reading::listing::listing;
+use wheat_delivery::trial::generate;
 
 const LISTING: &str = env!("CARGO_BIN_EXE_listing");
 const COMPARE: &str = env!("CARGO_BIN_EXE_compare");

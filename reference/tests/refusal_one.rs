@@ -3,9 +3,9 @@
 mod common;
 
 use common::{Lent, book_of, code};
-use wheat_delivery::book::{Book, NOTICES, Notice, SECTIONS, Section, SessionKind};
-use wheat_delivery::calls::open;
-use wheat_delivery::refusal::Refusal;
+use wheat_delivery::reading::book::{Book, NOTICES, Notice, SECTIONS, Section, SessionKind};
+use wheat_delivery::reading::calls::open;
+use wheat_delivery::reading::refusal::Refusal;
 
 /// A good book with two sections, two notices, a session and a trade since.
 fn good() -> Book {

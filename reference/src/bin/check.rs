@@ -4,11 +4,11 @@
 
 use std::process::ExitCode;
 use std::time::Instant;
-use wheat_delivery::book::Book;
-use wheat_delivery::demand;
-use wheat_delivery::file::{self, Reader};
-use wheat_delivery::generate;
-use wheat_delivery::listing::Lists;
+use wheat_delivery::reading::book::Book;
+use wheat_delivery::reading::file::{self, Reader, whole};
+use wheat_delivery::reading::listing::Lists;
+use wheat_delivery::trial::demand;
+use wheat_delivery::trial::generate::{self, lists};
 
 fn main() -> ExitCode {
     let arguments: Vec<String> = std::env::args().skip(1).collect();
@@ -54,7 +54,7 @@ impl Tally {
     fn check(&mut self, seed: u64) -> Result<(), String> {
         let file = generate::file(seed);
         self.check_read(&file)?;
-        let Some((contract, calls)) = generate::calls(seed, &file) else {
+        let Some((contract, calls)) = lists::calls(seed, &file) else {
             return Ok(());
         };
         let Some(history) = demand::run(contract.lot, contract.w, contract.r, &calls)? else {
@@ -78,7 +78,7 @@ impl Tally {
     /// A refused read writes nothing; an accepted file is the writer's.
     fn check_read(&mut self, file: &[u8]) -> Result<(), String> {
         let mut lists = Lists::full();
-        let reading = file::read(file, lists.lend());
+        let reading = whole::read(file, lists.lend());
         if reading.answer.is_err() {
             let nothing = lists == Lists::full() && reading.book == Book::noughts();
             return nothing

@@ -10,7 +10,8 @@ use std::process::{Child, Command, ExitCode, Stdio};
 use std::sync::mpsc;
 use std::thread;
 use std::time::Duration;
-use wheat_delivery::{generate, listing};
+use wheat_delivery::reading::listing;
+use wheat_delivery::trial::generate;
 
 /// How long a program may take over one file.
 const PATIENCE: Duration = Duration::from_secs(20);

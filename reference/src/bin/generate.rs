@@ -4,8 +4,8 @@
 
 use std::path::Path;
 use std::process::ExitCode;
-use wheat_delivery::generate::{file, kind};
-use wheat_delivery::reach::Reach;
+use wheat_delivery::trial::generate::{file, kind};
+use wheat_delivery::trial::reach::Reach;
 
 fn main() -> ExitCode {
     let arguments: Vec<String> = std::env::args().skip(1).collect();

@@ -1,7 +1,7 @@
 //! Reads an event file on standard input and prints its listing.
 
 use std::io::{self, Read, Write};
-use wheat_delivery::listing::listing;
+use wheat_delivery::reading::listing::listing;
 
 fn main() -> io::Result<()> {
     let mut file = Vec::new();

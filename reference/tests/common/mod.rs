@@ -1,12 +1,12 @@
 //! Books and files that several tests use.
 #![allow(dead_code)]
 
-use wheat_delivery::book::{Book, Notice, Section, SectionCode, SessionKind};
-use wheat_delivery::calls::{Counts, ExpiryLists, open};
-use wheat_delivery::demand::Entry;
-use wheat_delivery::file::Event;
-use wheat_delivery::listing::Lists;
-use wheat_delivery::refusal::Refusal;
+use wheat_delivery::reading::book::{Book, Notice, Section, SectionCode, SessionKind};
+use wheat_delivery::reading::calls::{Counts, ExpiryLists, open};
+use wheat_delivery::reading::file::event::Event;
+use wheat_delivery::reading::listing::Lists;
+use wheat_delivery::reading::refusal::Refusal;
+use wheat_delivery::trial::demand::Entry;
 
 /// A section code from text.
 pub fn code(text: &str) -> SectionCode {

@@ -1,6 +1,6 @@
 //! The book and its rules (document 01, "The book").
 
-use crate::value;
+use crate::reading::value;
 use std::fmt;
 use std::ops::RangeInclusive;
 

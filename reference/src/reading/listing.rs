@@ -1,8 +1,8 @@
 //! The listing of a file (document 01, "The program reads the file").
 
-use crate::book::SECTIONS;
-use crate::calls::{ExpiryLists, REGISTER};
-use crate::file::{ReadLists, Reading, read};
+use crate::reading::book::SECTIONS;
+use crate::reading::calls::{ExpiryLists, REGISTER};
+use crate::reading::file::whole::{ReadLists, Reading, read};
 use std::fmt::Write;
 
 /// Lists of full length, owned, to lend to a read.

@@ -4,13 +4,13 @@
 //! document 01's order. The first of them refuses the call. A condition that
 //! speaks of a section does not hold of a section that is not held.
 
-use crate::book::{
+use crate::reading::book::{
     Book, ELEVATORS, FACTOR, LOT, NOTICE_LOTS, NOTICES, Notice, POSITION, PRICE, SECTIONS,
     SETTLEMENT_CODES, STEP, Section, SectionCode, SessionKind, TRADE_LOTS, TRADES,
 };
-use crate::expiry::{Settlement, settle};
-use crate::refusal::{Refusal, first, holding};
-use crate::value;
+use crate::reading::expiry::{Settlement, settle};
+use crate::reading::refusal::{Refusal, first, holding};
+use crate::reading::value;
 
 /// "any of the four register lists [...] shorter than 382"
 pub const REGISTER: usize = 382;

@@ -1,0 +1,9 @@
+//! What the papers say of the book, its calls, expiry, the file and the listing.
+
+pub mod book;
+pub mod calls;
+pub mod expiry;
+pub mod file;
+pub mod listing;
+pub mod refusal;
+pub mod value;

@@ -1,0 +1,135 @@
+//! One call with lists lent, and what it may write.
+
+use super::{Call, Entry, Expiry, Lengths, Outcome, Step};
+use crate::reading::book::Book;
+use crate::reading::calls::{Counts, ExpiryLists};
+use crate::reading::file::event::Event;
+use crate::reading::refusal::Refusal;
+
+/// The lists lent to one call, filled so that each untouched entry shows.
+#[derive(Clone, Debug, PartialEq, Eq)]
+struct Lent {
+    margins: Vec<i64>,
+    buyers: Vec<u8>,
+    elevators: Vec<u8>,
+    sellers: Vec<u8>,
+    lots: Vec<u32>,
+    delivered: Vec<u32>,
+    terminated: Vec<u32>,
+}
+
+impl Lent {
+    /// Lists of these lengths, holding values no call writes.
+    fn new(lengths: &Lengths) -> Lent {
+        let [buyers, elevators, sellers, lots] = lengths.register;
+        Lent {
+            margins: (0..lengths.margins).map(|i| i64::MIN + i as i64).collect(),
+            buyers: vec![0xB1; buyers],
+            elevators: vec![0xE1; elevators],
+            sellers: vec![0xC1; sellers],
+            lots: (0..lots).map(|i| u32::MAX - i as u32).collect(),
+            delivered: (0..lengths.delivered)
+                .map(|i| u32::MAX - i as u32)
+                .collect(),
+            terminated: (0..lengths.terminated)
+                .map(|i| u32::MAX - i as u32)
+                .collect(),
+        }
+    }
+
+    /// The entries from the start of the four register lists.
+    fn register(&self, lines: usize) -> Vec<Entry> {
+        let entry = |i: usize| Entry {
+            buyer: self.buyers[i],
+            elevator: self.elevators[i],
+            seller: self.sellers[i],
+            lots: self.lots[i],
+        };
+        (0..lines).map(entry).collect()
+    }
+
+    /// Whether this agrees with what was lent, but for the entries used.
+    fn remains(&self, lent: &Lent, margins: usize, lines: usize, sections: usize) -> bool {
+        self.margins[margins..] == lent.margins[margins..]
+            && self.buyers[lines..] == lent.buyers[lines..]
+            && self.elevators[lines..] == lent.elevators[lines..]
+            && self.sellers[lines..] == lent.sellers[lines..]
+            && self.lots[lines..] == lent.lots[lines..]
+            && self.delivered[sections..] == lent.delivered[sections..]
+            && self.terminated[sections..] == lent.terminated[sections..]
+    }
+}
+
+/// Makes one call on the book with lists lent.
+fn make(book: &mut Book, event: &Event, lent: &mut Lent) -> Result<Counts, Refusal> {
+    let none = Counts::default();
+    match *event {
+        Event::Section {
+            settlement_code,
+            seller,
+            code,
+            participant,
+        } => book
+            .section(settlement_code, seller, code, participant)
+            .map(|()| none),
+        Event::Trade {
+            buyer,
+            seller,
+            price,
+            lots,
+        } => book.trade(buyer, seller, price, lots).map(|()| none),
+        Event::Session { price } => book.session(price, &mut lent.margins).map(|()| none),
+        Event::Condition { section, met } => book.condition(section, met).map(|()| none),
+        Event::Notice {
+            section,
+            elevator,
+            lots,
+        } => book.notice(section, elevator, lots).map(|()| none),
+        Event::Expiry => book.expiry(ExpiryLists {
+            buyers: &mut lent.buyers,
+            elevators: &mut lent.elevators,
+            sellers: &mut lent.sellers,
+            lots: &mut lent.lots,
+            delivered: &mut lent.delivered,
+            terminated: &mut lent.terminated,
+        }),
+    }
+}
+
+/// Makes one call and checks demand 1's last sentence: refused, "the book and
+/// every lent entry remain as they were"; accepted, no entry but those used.
+pub(super) fn make_checked(book: &mut Book, call: &Call, held: usize) -> Result<Step, String> {
+    let lent = Lent::new(&call.lengths);
+    let mut lists = lent.clone();
+    let before = book.clone();
+    let answer = make(book, &call.event, &mut lists);
+    let (margins, lines, sections) = match (&answer, call.event) {
+        (Ok(_), Event::Session { .. }) => (held, 0, 0),
+        (Ok(counts), Event::Expiry) => (0, counts.lines, held),
+        _ => (0, 0, 0),
+    };
+    if !lists.remains(&lent, margins, lines, sections) {
+        return Err(format!(
+            "{call:?} answered {answer:?} and wrote an entry it does not use"
+        ));
+    }
+    if answer.is_err() && *book != before {
+        return Err(format!("{call:?} was refused and changed the book"));
+    }
+    let outcome = |counts: Counts| match call.event {
+        Event::Session { .. } => Outcome::Session {
+            margins: lists.margins[..held].to_vec(),
+        },
+        Event::Expiry => Outcome::Expiry(Expiry {
+            counts,
+            register: lists.register(counts.lines),
+            delivered: lists.delivered[..held].to_vec(),
+            terminated: lists.terminated[..held].to_vec(),
+        }),
+        _ => Outcome::Done,
+    };
+    Ok(Step {
+        event: call.event,
+        answer: answer.map(outcome),
+    })
+}
