@@ -1,17 +1,7 @@
 -- What an accepted call says of its book and its inputs: none of the conditions that would refuse it holds.
-use Prim.Native.Nat.{ℕ, _≤_, _<_, _%_}
-use native.Mathlib.Omega.{arith}
-use mathlib.Core.Path.{_≡_, refl}
-use mathlib.Core.Bool.{Bool, true, false, not, _||_}
-use mathlib.Core.List.{List}
-use lib.Dec.{leb, ltb, eqb}
-use lib.ListN.{length}
-use lib.IntN.{ℤ, pos, negℤ, natAbs, _+ℤ_}
-use borrow.Author.Tests.{leb-true, leb-false, ltb-false, eqb-true, eqb-false, not-false}
-use Rattle.numbers.specs.Whole.{between, within}
-use Rattle.numbers.specs.Lists.{_and_, every}
+use Rattle.numbers.proofs.Words.{ℕ, _≤_, _<_, _%_, arith, _≡_, refl, Bool, true, false, not, _||_, List, leb, ltb, eqb, length, ℤ, pos, negℤ, natAbs, _+ℤ_, leb-true, leb-false, ltb-false, eqb-true, eqb-false, not-false, between, within, _and_, every}
+use Rattle.rules.specs.declared.book.{Book.Book}
 use Rattle.numbers.proofs.Tests.{both, or-left, or-right}
-use Rattle.rules.specs.declared.book.Book.{Book}
 use Rattle.rules.specs.Book.{good, lotGood, stepsGood, factorGood, codeGood, byteGood, sectionAt, positionOf, heldSections, filedNotices}
 use Rattle.rules.specs.Calls.{first, unknown, openingNumber, sectionNumber, codeHeld, tradeNumber, partyRefusals, sizeRefusals, roomRefusals, passes, sessionNumber, conditionNumber, noticeNumber, noticeFiled}
 use Rattle.book_laws.proofs.Answers.{first-none, first-none-append, numbered}

@@ -1,14 +1,7 @@
 -- The first refusal of a list, and the answer under a number.
-use Prim.Native.Nat.{ℕ}
-use mathlib.Core.Path.{_≡_, refl, sym, ap, _∙_}
-use mathlib.Core.Bool.{Bool, true, false, not}
-use mathlib.Core.List.{List, [], _∷_, _++_}
-use lib.Dec.{eqb}
-use borrow.Author.Tests.{ne-eqb, eqb-false, not-true}
-use Rattle.numbers.specs.Lists.{every}
+use Rattle.numbers.proofs.Words.{ℕ, _≡_, refl, sym, ap, _∙_, Bool, true, false, not, List, [], _∷_, _++_, eqb, ne-eqb, eqb-false, not-true, every}
+use Rattle.rules.specs.declared.book.{Answer.Answer, Book.Book}
 use Rattle.numbers.proofs.Tests.{both}
-use Rattle.rules.specs.declared.book.Answer.{Answer}
-use Rattle.rules.specs.declared.book.Book.{Book}
 use Rattle.rules.specs.Book.{good}
 use Rattle.rules.specs.Calls.{Refusal, _if_, first, handedOut, answer}
 

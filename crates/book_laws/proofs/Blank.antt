@@ -1,22 +1,10 @@
 -- "Places beyond those held are noughts": the test of a blank place says that it is one.
-use Prim.Native.Nat.{ℕ, _+_, _-_, _≤_, _<_}
-use native.Mathlib.Omega.{arith}
-use mathlib.Core.Path.{_≡_, sym, ap, _∙_}
-use mathlib.Core.Bool.{true, not}
-use mathlib.Core.Logic.{⊎-elim}
-use mathlib.Core.List.{[]}
-use lib.Dec.{eqb}
-use lib.ListN.{length, drop, length-drop, List·getD-eq-default}
-use lib.Seq.{getD-drop}
-use borrow.Author.Tests.{eqb-true, not-true}
-use Rattle.numbers.specs.Whole.{within}
-use Rattle.numbers.specs.Bytes.{same}
+use Rattle.numbers.proofs.Words.{ℕ, _+_, _-_, _≤_, _<_, arith, _≡_, sym, ap, _∙_, true, not, ⊎-elim, [], eqb, length, drop, length-drop, List·getD-eq-default, getD-drop, eqb-true, not-true, within, same}
+use Rattle.rules.specs.declared.book.{Book.Book, Section.Section}
 use Rattle.numbers.proofs.Tests.{both, below-or-not}
 use Rattle.numbers.proofs.Lists.{every-at}
 use Rattle.numbers.proofs.Bytes.{same-eq}
 use Rattle.numbers.proofs.Whole.{within-zero}
-use Rattle.rules.specs.declared.book.Book.{Book}
-use Rattle.rules.specs.declared.book.Section.{Section}
 use Rattle.rules.specs.Book.{blankCode, blankSection, sectionOfNoughts, sectionBlank, sectionAt, positionOf, basisOf}
 use Rattle.book_laws.proofs.Good.{Good}
 

@@ -1,20 +1,8 @@
 -- The rules of the book as records of facts, and the law between them and the test `good`.
-use Prim.Native.Nat.{ℕ, _≤_}
-use native.Mathlib.Omega.{arith}
-use mathlib.Core.Path.{_≡_, refl, ap}
-use mathlib.Core.Bool.{Bool, true, _&&_}
-use mathlib.Core.List.{map}
-use lib.Dec.{leb, eqb}
-use lib.ListN.{length, drop}
-use lib.IntN.{ℤ, pos, natAbs}
-use borrow.Author.Tests.{leb-true, le-leb, eqb-true, eq-eqb}
-use Rattle.numbers.specs.Whole.{between, within}
-use Rattle.numbers.specs.Lists.{_and_, every, apart}
-use Rattle.numbers.specs.Sums.{totalℤ}
+use Rattle.numbers.proofs.Words.{ℕ, _≤_, arith, _≡_, refl, ap, Bool, true, _&&_, map, leb, eqb, length, drop, ℤ, pos, natAbs, leb-true, le-leb, eqb-true, eq-eqb, between, within, _and_, every, apart, totalℤ}
+use Rattle.rules.specs.declared.book.{Book.Book, Section.Section}
 use Rattle.numbers.proofs.Tests.{both, together}
 use Rattle.numbers.proofs.Whole.{within-zero}
-use Rattle.rules.specs.declared.book.Book.{Book}
-use Rattle.rules.specs.declared.book.Section.{Section}
 use Rattle.rules.specs.Value.{factor}
 use Rattle.rules.specs.Book
 

@@ -1,12 +1,7 @@
 -- The sections held and the notices filed, as lists that a loop over a book's places goes along.
-use Prim.Native.Nat.{ℕ, _≤_, _<_}
-use mathlib.Core.Path.{_≡_, sym, subst}
-use lib.ListN.{length}
-use lib.Seq.{length-take-le}
-use native.Mathlib.Omega.{arith}
-use lib.IntN.{natAbs}
+use Rattle.numbers.proofs.Words.{ℕ, _≤_, _<_, _≡_, sym, subst, length, length-take-le, arith, natAbs}
+use Rattle.rules.specs.declared.book.{Book.Book}
 use Rattle.numbers.proofs.Lists.{Has, has-take, every-has}
-use Rattle.rules.specs.declared.book.Book.{Book}
 use Rattle.rules.specs.Book.{heldSections, filedNotices, sectionAt, noticeAt, basisOf, sectionOfNoughts, blankNotice, sectionGood}
 use Rattle.book_laws.proofs.Good.{Good, SectionGood, section-facts}
 

@@ -1,12 +1,7 @@
 -- Whatever a call's number, the book in its answer is good if the book that it was given is. That an accepted call leaves
 -- a good book is shown in the module of each call.
-use Prim.Native.Nat.{ℕ}
-use mathlib.Core.Path.{_≡_, refl}
-use mathlib.Core.Bool.{Bool, true, false, cond}
-use mathlib.Core.List.{List}
-use lib.Dec.{eqb}
-use borrow.Author.Tests.{eqb-true}
-use Rattle.rules.specs.declared.book.Book.{Book}
+use Rattle.numbers.proofs.Words.{ℕ, _≡_, refl, Bool, true, false, cond, List, eqb, eqb-true}
+use Rattle.rules.specs.declared.book.{Book.Book}
 use Rattle.rules.specs.Book.{good}
 use Rattle.rules.specs.Calls.{handedOut, sectionAnswer, tradeAnswer, sessionAnswer, conditionAnswer, noticeAnswer}
 pub mod Sections

@@ -1,11 +1,5 @@
 -- A trade's lots as the machine's signed numbers: bought plus, sold minus.
-use Prim.Native.Nat.{ℕ, _≤_}
-use native.Mathlib.Omega.{arith}
-use mathlib.Core.Path.{_≡_, sym, ap, subst, _∙_}
-use lib.IntN.{ℤ, pos, negℤ, natAbs, _-ℤ_, +ℤ-idl}
-use mir.Syntax.{w64}
-use mir.Val.{SFits, toZ, ofZ}
-use mir.Facts.{toZ-ofZ, toZ-pos}
+use Rattle.numbers.proofs.Words.{ℕ, _≤_, arith, _≡_, sym, ap, subst, _∙_, ℤ, pos, negℤ, natAbs, _-ℤ_, +ℤ-idl, w64, SFits, toZ, ofZ, toZ-ofZ, toZ-pos}
 use Rattle.numbers.proofs.Whole.{sfits-size, size, negated}
 
 module _ (lots : ℕ) (most : lots ≤ 10_000) where

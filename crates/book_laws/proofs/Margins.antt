@@ -1,12 +1,7 @@
 -- The margins of an accepted session sum to zero, because positions and bases do.
-use Prim.Native.Nat.{ℕ}
-use mathlib.Core.Path.{_≡_, ap, ap₂, _∙_}
-use mathlib.Core.List.{map}
-use lib.IntN.{ℤ, pos, _-ℤ_, _*ℤ_, zero-*ℤ}
-use Rattle.numbers.specs.Sums.{totalℤ}
+use Rattle.numbers.proofs.Words.{ℕ, _≡_, ap, ap₂, _∙_, map, ℤ, pos, _-ℤ_, _*ℤ_, zero-*ℤ, totalℤ}
+use Rattle.rules.specs.declared.book.{Book.Book, Section.Section}
 use Rattle.numbers.proofs.Sums.{total-product, total-difference}
-use Rattle.rules.specs.declared.book.Book.{Book}
-use Rattle.rules.specs.declared.book.Section.{Section}
 use Rattle.rules.specs.Units.{worth}
 use Rattle.rules.specs.Value.{factor, value, valueOf}
 use Rattle.rules.specs.Book.{positionOf, basisOf, heldSections, valueAt}

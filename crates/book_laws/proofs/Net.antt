@@ -1,12 +1,7 @@
 -- A section's lots bought less sold, over the accepted trades, are its position: an opened book has none, a trade adds the
 -- lots on the section's side to both, and no other call moves either.
-use Prim.Native.Nat.{ℕ, _<_, zero-le}
-use mathlib.Core.Path.{_≡_, refl, sym, ap, _∙_}
-use mathlib.Core.Bool.{Bool}
-use mathlib.Core.List.{List}
-use lib.IntN.{ℤ, pos, _+ℤ_}
-use Rattle.rules.specs.declared.book.Book.{Book}
-use Rattle.rules.specs.declared.units.Lots.{Lots}
+use Rattle.numbers.proofs.Words.{ℕ, _<_, zero-le, _≡_, refl, sym, ap, _∙_, Bool, List, ℤ, pos, _+ℤ_}
+use Rattle.rules.specs.declared.{book.Book.Book, units.Lots.Lots}
 use Rattle.rules.specs.Book.{opened, positionOf, sectionAt}
 use Rattle.rules.specs.Calls.{openingNumber, newSection, withSection, traded, afterSession, afterCondition, afterNotice}
 use Rattle.book_laws.proofs.Accepted.{NewTrade}

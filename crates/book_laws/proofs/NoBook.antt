@@ -1,8 +1,5 @@
 -- The book of noughts breaks the rules, so every call refuses it with 1.
-use Prim.Native.Nat.{ℕ}
-use mathlib.Core.Path.{_≡_, refl, sym}
-use mathlib.Core.Bool.{false}
-use mathlib.Core.List.{List}
+use Rattle.numbers.proofs.Words.{ℕ, _≡_, refl, sym, false, List}
 use Rattle.rules.specs.Book.{noBook, good, termsGood}
 use Rattle.rules.specs.Calls.{sectionNumber, tradeNumber, partyRefusals, sessionNumber, conditionNumber, noticeNumber}
 use Rattle.book_laws.proofs.Answers.{bad-book}

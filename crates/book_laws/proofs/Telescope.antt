@@ -1,19 +1,11 @@
 -- The step of the telescoping sum. With M the sum of a section's margins so far and E the signed sum of lots times entry
 -- value over the accepted trades, M + E is its basis: an opened book has 0, 0 and 0, a trade adds the same to E and to the
 -- basis, a session adds to M what the basis rises by, and no other call moves any of the three.
-use Prim.Native.Nat.{ℕ, _+_, _≤_, _<_, zero-le}
-use mathlib.Core.Path.{_≡_, refl, sym, ap, subst, _∙_}
-use mathlib.Core.Bool.{Bool}
-use mathlib.Core.Logic.{⊎-elim}
-use mathlib.Core.List.{List}
-use lib.ListN.{getD}
-use lib.IntN.{ℤ, pos, natAbs, _+ℤ_, _-ℤ_, +ℤ-assoc, +ℤ-comm, +ℤ-idl, -ℤ-+ℤ-cancel, +ℤ-negℤ-cancel}
+use Rattle.numbers.proofs.Words.{ℕ, _+_, _≤_, _<_, zero-le, _≡_, refl, sym, ap, subst, _∙_, Bool, ⊎-elim, List, getD, ℤ, pos, natAbs, _+ℤ_, _-ℤ_, +ℤ-assoc, +ℤ-comm, +ℤ-idl, -ℤ-+ℤ-cancel, +ℤ-negℤ-cancel}
+use Rattle.rules.specs.declared.{book.Book.Book, book.Section.Section, units.Kopecks.Kopecks}
 use Rattle.numbers.proofs.Tests.{below-or-not}
 use Rattle.numbers.proofs.Whole.{difference-within}
 use Rattle.value.proofs.Laws.{value-within, worth-within}
-use Rattle.rules.specs.declared.book.Book.{Book}
-use Rattle.rules.specs.declared.book.Section.{Section}
-use Rattle.rules.specs.declared.units.Kopecks.{Kopecks}
 use Rattle.rules.specs.Units.{worth}
 use Rattle.rules.specs.Book.{opened, basisOf, sectionAt, valueAt}
 use Rattle.rules.specs.Calls.{openingNumber, newSection, withSection, traded, settled, marginOf, margins, afterSession, afterCondition, afterNotice}

@@ -1,6 +1,5 @@
 // Filing a notice.
-ghost use mathlib.Core.Path.{_≡_};
-ghost use mathlib.Core.Bool.{true};
+ghost use Rattle.rules.specs.Words.{_≡_, true};
 ghost use Rattle.rules.specs.Book.{good};
 ghost use Rattle.rules.specs.Calls as Rules;
 use judge::notices;

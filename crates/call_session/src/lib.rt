@@ -1,10 +1,5 @@
 // A session: margins are paid, and bases start anew from the session's value.
-ghost use mathlib.Core.Path.{_≡_};
-ghost use mathlib.Core.Bool.{true};
-ghost use mathlib.Core.List.{_++_};
-ghost use Prim.Native.Nat.{_≤_};
-ghost use lib.IntN.{natAbs};
-ghost use lib.ListN.{length, drop};
+ghost use Rattle.rules.specs.Words.{_≡_, true, _++_, _≤_, natAbs, length, drop};
 ghost use Rattle.rules.specs.Book.{good, positionOf, basisOf};
 ghost use Rattle.rules.specs.Calls as Rules;
 use judge::terms;

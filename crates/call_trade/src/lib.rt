@@ -1,8 +1,5 @@
 // A trade.
-ghost use mathlib.Core.Path.{_≡_};
-ghost use mathlib.Core.Bool.{true};
-ghost use Prim.Native.Nat.{_≤_, _<_};
-ghost use lib.IntN.{natAbs};
+ghost use Rattle.rules.specs.Words.{_≡_, true, _≤_, _<_, natAbs};
 ghost use Rattle.rules.specs.Book.{good, positionOf, basisOf, valueAt};
 ghost use Rattle.rules.specs.Calls.{first};
 ghost use Rattle.rules.specs.Calls as Rules;

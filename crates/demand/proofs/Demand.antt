@@ -1,25 +1,11 @@
 -- Demand 3: what an accepted expiry delivers, and with it the one theorem over every list of calls.
-use Prim.Native.Nat.{ℕ, _+_, _≤_, _<_}
-use native.Mathlib.Omega.{arith}
-use mathlib.Core.Path.{_≡_, sym, ap, ap₂, _∙_}
-use mathlib.Core.Bool.{Bool, true, false, cond, _&&_}
-use mathlib.Core.List.{List}
-use mathlib.Core.Logic.{⊎-elim}
-use lib.Dec.{eqb, ltb, leb}
-use lib.ListN.{length}
-use lib.Seq.{getD-take}
-use lib.IntN.{ℤ, natAbs}
-use borrow.Author.Tests.{eq-eqb, ltb-true, leb-true}
-use Rattle.numbers.specs.Lists.{_and_, listed, entry}
-use Rattle.numbers.specs.Sums.{total, many}
+use Rattle.numbers.proofs.Words.{ℕ, _+_, _≤_, _<_, arith, _≡_, sym, ap, ap₂, _∙_, Bool, true, false, cond, _&&_, List, ⊎-elim, eqb, ltb, leb, length, getD-take, ℤ, natAbs, eq-eqb, ltb-true, leb-true, _and_, listed, entry, total, many}
+use Rattle.rules.specs.declared.book.{Book.Book, Section.Section, Notice.Notice}
 use Rattle.numbers.proofs.Sums.{naturals}
 use Rattle.numbers.proofs.Lists.{every-at, apart-at}
 use Rattle.numbers.proofs.Counts.{many-same}
 use Rattle.numbers.proofs.Ranges.{sum-same, sum-one, chosen-yes, chosen-no}
 use Rattle.numbers.proofs.Tests.{and-left, and-right, eqb-sym, below-or-not, same-or-not}
-use Rattle.rules.specs.declared.book.Book.{Book}
-use Rattle.rules.specs.declared.book.Section.{Section}
-use Rattle.rules.specs.declared.book.Notice.{Notice}
 use Rattle.rules.specs.Book.{good, sectionAt, noticeAt, sectionOf, noticeOf, heldSections, filedNotices, positionOf, noticesAlike, noticeGood}
 use Rattle.rules.specs.Calls.{first}
 use Rattle.rules.specs.Expiry.{isLong}

@@ -1,11 +1,7 @@
 -- A refused call brings nothing and hands out the same book; after an accepted expiry every call is refused.
-use native.Mathlib.Omega.{arith}
-use mathlib.Core.Path.{_≡_, refl, sym, ap, _∙_}
-use mathlib.Core.Bool.{true, false, cond, true≢false}
-use mathlib.Core.List.{List, [], _∷_, _++_, flatMap}
-use lib.Dec.{eqb}
-use borrow.Author.Tests.{ne-eqb}
-use Rattle.rules.specs.declared.book.Book.{Book}
+use Rattle.numbers.proofs.Words.{arith, _≡_, refl, sym, ap, _∙_, true, false, cond, true≢false, List, [], _∷_, _++_, eqb, ne-eqb}
+use Rattle.rules.specs.declared.book.{Book.Book}
+use mathlib.Core.List.{flatMap}
 use Rattle.rules.specs.Calls.{sectionAnswer, tradeAnswer, sessionAnswer, conditionAnswer, noticeAnswer}
 use Rattle.rules.specs.Expiry.Call.{expiryRefusals, expiryAnswer}
 use Rattle.rules.specs.History.{Call, section, trade, session, condition, notice, expiry, Deal, Brought, nothing, answerOf, broughtBy, history}

@@ -1,16 +1,8 @@
 -- Demand 3 over a list of calls, given what an accepted expiry delivers.
-use Prim.Native.Nat.{ℕ}
-use mathlib.Core.Path.{_≡_, refl, sym, ap, subst, _∙_}
-use mathlib.Core.Bool.{Bool, true, false, cond}
-use mathlib.Core.List.{List, [], _∷_, _++_, flatMap, map-append, append-nil, append-assoc}
-use lib.Dec.{eqb}
-use lib.ListN.{length}
-use lib.IntN.{ℤ, pos, _+ℤ_, +ℤ-idl, +ℤ-idr, +ℤ-assoc}
-use borrow.Author.Tests.{eqb-true, eqb-false}
-use Rattle.numbers.specs.Lists.{Every, entryℤ}
-use Rattle.numbers.specs.Sums.{gathered, totalℤ}
+use Rattle.numbers.proofs.Words.{ℕ, _≡_, refl, sym, ap, subst, _∙_, Bool, true, false, cond, List, [], _∷_, _++_, map-append, append-nil, append-assoc, eqb, length, ℤ, pos, _+ℤ_, +ℤ-idl, +ℤ-idr, +ℤ-assoc, eqb-true, eqb-false, Every, entryℤ, gathered, totalℤ}
+use Rattle.rules.specs.declared.book.{Book.Book}
+use mathlib.Core.List.{flatMap}
 use Rattle.numbers.proofs.Sums.{wholes, total-append}
-use Rattle.rules.specs.declared.book.Book.{Book}
 use Rattle.rules.specs.Book.{good, opened, sectionAt, positionOf}
 use Rattle.rules.specs.Calls.{first, sectionAnswer, tradeAnswer, sessionAnswer, conditionAnswer, noticeAnswer}
 use Rattle.rules.specs.Expiry.Call.{Lists, expiryRefusals, expiryAnswer, expiryLists, afterExpiry}

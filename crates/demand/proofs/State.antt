@@ -1,13 +1,7 @@
 -- Where a list of calls stands: what the calls so far have brought, and what the book that they left says of it.
-use Prim.Native.Nat.{ℕ}
-use mathlib.Core.Path.{_≡_, refl, ap, _∙_}
-use mathlib.Core.Bool.{true}
-use mathlib.Core.List.{List, [], _∷_, _++_, map, map-append, append-nil}
-use lib.IntN.{ℤ, pos, _+ℤ_, _-ℤ_, +ℤ-idr}
-use Rattle.numbers.specs.Lists.{entryℤ}
-use Rattle.numbers.specs.Sums.{gathered, totalℤ}
+use Rattle.numbers.proofs.Words.{ℕ, _≡_, refl, ap, _∙_, true, List, [], _∷_, _++_, map, map-append, append-nil, ℤ, pos, _+ℤ_, _-ℤ_, +ℤ-idr, entryℤ, gathered, totalℤ}
+use Rattle.rules.specs.declared.book.{Book.Book}
 use Rattle.numbers.proofs.Sums.{wholes, total-append}
-use Rattle.rules.specs.declared.book.Book.{Book}
 use Rattle.rules.specs.Units.{worth}
 use Rattle.rules.specs.Book.{good, opened}
 use Rattle.rules.specs.Calls.{openingNumber}

@@ -1,19 +1,7 @@
 -- What each accepted call does to where the list of calls stands.
-use Prim.Native.Nat.{ℕ, _≤_}
-use mathlib.Core.Path.{_≡_, refl, sym, ap, ap₂, subst, _∙_}
-use mathlib.Core.Bool.{Bool, true, false}
-use mathlib.Core.Logic.{⊎-elim}
-use mathlib.Core.List.{List, _++_, append-nil}
-use lib.Dec.{eqb}
-use lib.ListN.{length, take, drop, length-map}
-use lib.Seq.{take-append-seam}
-use lib.IntN.{ℤ, pos, negℤ, _+ℤ_, _-ℤ_, +ℤ-idl, +ℤ-idr, +ℤ-negℤ-cancel, zero-*ℤ}
-use borrow.Author.Tests.{eqb-true}
-use Rattle.numbers.specs.Lists.{entryℤ}
-use Rattle.numbers.specs.Sums.{gathered}
+use Rattle.numbers.proofs.Words.{ℕ, _≤_, _≡_, refl, sym, ap, ap₂, subst, _∙_, Bool, true, false, ⊎-elim, List, _++_, append-nil, eqb, length, take, drop, length-map, take-append-seam, ℤ, pos, negℤ, _+ℤ_, _-ℤ_, +ℤ-idl, +ℤ-idr, +ℤ-negℤ-cancel, zero-*ℤ, eqb-true, entryℤ, gathered}
+use Rattle.rules.specs.declared.{book.Book.Book, units.Kopecks.Kopecks}
 use Rattle.numbers.proofs.Tests.{below-or-not}
-use Rattle.rules.specs.declared.book.Book.{Book}
-use Rattle.rules.specs.declared.units.Kopecks.{Kopecks}
 use Rattle.rules.specs.Units.{worth}
 use Rattle.rules.specs.Book.{good, termsGood, placesGood, sectionsGood, noticesGood, tailsBlank, sectionAt, positionOf, basisOf, heldSections, valueAt}
 use Rattle.rules.specs.Calls.{sectionNumber, newSection, withSection, tradeNumber, traded, sessionNumber, margins, sessionMargins, marginOf, afterSession, conditionNumber, afterCondition, noticeNumber, afterNotice}

@@ -1,23 +1,10 @@
 -- What an accepted expiry writes into the lists that it is lent, read as lines.
-use Prim.Native.Nat.{ℕ, _+_, _<_}
-use native.Mathlib.Omega.{arith}
-use mathlib.Core.Path.{_≡_, ap, ap₂, _∙_}
-use mathlib.Core.Bool.{Bool, cond, _&&_, _||_}
-use mathlib.Core.List.{List, [], map}
-use lib.Dec.{eqb}
-use lib.IntN.{natAbs}
-use lib.ListN.{length, getD, length-map}
-use lib.Seq.{getD-take}
-use borrow.Author.Tests.{not-false}
-use Rattle.numbers.specs.Lists.{listed, entry, less, over}
-use Rattle.numbers.specs.Sums.{total}
+use Rattle.numbers.proofs.Words.{ℕ, _+_, _<_, arith, _≡_, ap, ap₂, _∙_, Bool, cond, _&&_, _||_, List, [], map, eqb, natAbs, length, getD, length-map, getD-take, not-false, listed, entry, less, over, total}
+use Rattle.rules.specs.declared.book.{Book.Book, Section.Section, Notice.Notice}
 use Rattle.numbers.proofs.Sums.{naturals}
 use Rattle.numbers.proofs.Changed.{read-at}
 use Rattle.numbers.proofs.Lists.{over-at}
 use Rattle.numbers.proofs.Ranges.{listed-read, less-at, Left, left-all, left-less, sum-same}
-use Rattle.rules.specs.declared.book.Book.{Book}
-use Rattle.rules.specs.declared.book.Section.{Section}
-use Rattle.rules.specs.declared.book.Notice.{Notice}
 use Rattle.rules.specs.Book.{heldSections, filedNotices, noticeAt, sectionAt, sectionOf, sectionOfNoughts, positionOf}
 use Rattle.rules.specs.Calls.{first, handedOut, count}
 use Rattle.rules.specs.Expiry.{size}

@@ -1,6 +1,5 @@
 // Section codes.
-ghost use mathlib.Core.Path.{_≡_};
-ghost use Rattle.numbers.specs.Bytes.{same};
+ghost use Rattle.rules.specs.Words.{_≡_, same};
 ghost use Rattle.rules.specs.Book.{byteGood, codeGood};
 
 fn byte_good(byte: u8) -> bool

@@ -1,8 +1,5 @@
 // The notices filed, and the places beyond them.
-ghost use mathlib.Core.Path.{_≡_};
-ghost use Prim.Native.Nat.{_≤_};
-ghost use lib.ListN.{drop};
-ghost use Rattle.numbers.specs.Lists.{every, apart};
+ghost use Rattle.rules.specs.Words.{_≡_, _≤_, drop, every, apart};
 ghost use Rattle.rules.specs.Book.{filedNotices, noticesAlike, noticeGood, noticeBlank, noticesGood};
 ghost use Rattle.rules.specs.Calls.{noticeFiled};
 use rules::book::Book;

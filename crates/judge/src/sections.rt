@@ -1,10 +1,5 @@
 // The sections held, and the places beyond them.
-ghost use mathlib.Core.Path.{_≡_};
-ghost use mathlib.Core.Bool.{true};
-ghost use mathlib.Core.List.{map};
-ghost use Prim.Native.Nat.{_≤_};
-ghost use lib.ListN.{drop};
-ghost use Rattle.numbers.specs.Lists.{_and_, every, apart};
+ghost use Rattle.rules.specs.Words.{_≡_, true, map, _≤_, drop, _and_, every, apart};
 ghost use Rattle.rules.specs.Book.{heldSections, positionOf, basisOf, codesAlike, sumsToZero, sectionGood, sectionBlank, sectionsGood};
 ghost use Rattle.rules.specs.Calls.{codeHeld};
 use crate::codes;

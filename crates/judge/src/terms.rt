@@ -1,7 +1,5 @@
 // The terms, the counts and the last session.
-ghost use mathlib.Core.Path.{_≡_};
-ghost use Rattle.numbers.specs.Whole.{between};
-ghost use mathlib.Core.Bool.{true};
+ghost use Rattle.rules.specs.Words.{_≡_, between, true};
 ghost use Rattle.rules.specs.Book.{good, valueAt, stepsGood, factorGood, termsGood, placesGood, lastGood};
 use rules::book::Book;
 use rules::book::LastSession;

@@ -1,15 +1,7 @@
 -- The lots of the sections that a step takes, filled by number.
-use Prim.Native.Nat.{ℕ, _+_, _≤_, _<_}
-use native.Mathlib.Omega.{arith}
-use mathlib.Core.Path.{_≡_, sym, ap, _∙_}
-use mathlib.Core.Bool.{Bool, true, cond}
-use mathlib.Core.List.{List, []}
-use lib.ListN.{length, set}
-use lib.Seq.{getD-take}
-use Rattle.numbers.specs.Lists.{listed, entry}
+use Rattle.numbers.proofs.Words.{ℕ, _+_, _≤_, _<_, arith, _≡_, sym, ap, _∙_, Bool, true, cond, List, [], length, set, getD-take, listed, entry}
+use Rattle.rules.specs.declared.book.{Book.Book, Section.Section}
 use Rattle.numbers.proofs.Filled.{partly, partly-start, partly-next, partly-length, partly-end}
-use Rattle.rules.specs.declared.book.Book.{Book}
-use Rattle.rules.specs.declared.book.Section.{Section}
 use Rattle.rules.specs.Book.{good, heldSections, sectionAt, sectionOf, sectionOfNoughts}
 use Rattle.rules.specs.Expiry.{chosen}
 use Rattle.book_laws.proofs.Good.{facts}

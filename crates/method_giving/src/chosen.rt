@@ -1,9 +1,5 @@
 // The lots of the sections that a step takes, and 0 for all others.
-ghost use mathlib.Core.Path.{_≡_};
-ghost use mathlib.Core.Bool.{true, cond};
-ghost use Prim.Native.Nat.{ℕ};
-ghost use lib.ListN.{length};
-ghost use Rattle.numbers.specs.Lists.{entryℤ};
+ghost use Rattle.rules.specs.Words.{_≡_, true, cond, ℕ, length, entryℤ};
 ghost use Rattle.rules.specs.declared.book.Section.{Section};
 ghost use Rattle.rules.specs.Book.{good, heldSections, positionOf};
 ghost use Rattle.rules.specs.Expiry;

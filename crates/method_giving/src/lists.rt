@@ -1,12 +1,6 @@
 // Lists of lots.
-ghost use mathlib.Core.Path.{_≡_};
-ghost use mathlib.Core.List.{map};
-ghost use Prim.Native.Nat.{ℕ, _≤_};
-ghost use lib.ListN.{length};
-ghost use lib.IntN.{natAbs};
-ghost use Rattle.numbers.specs.Lists.{entry};
+ghost use Rattle.rules.specs.Words.{_≡_, map, ℕ, _≤_, length, natAbs, entry, total};
 ghost use Rattle.numbers.specs.Lists as Lists;
-ghost use Rattle.numbers.specs.Sums.{total};
 use value::signed;
 
 // What is left of each entry when some of it is taken.

@@ -1,9 +1,5 @@
 // Sections of an order give what they have, while their code's cap and the whole need last.
-ghost use mathlib.Core.Path.{_≡_};
-ghost use mathlib.Core.Bool.{true};
-ghost use Prim.Native.Nat.{ℕ, _≤_, _<_, min};
-ghost use lib.ListN.{length};
-ghost use Rattle.numbers.specs.Lists.{entry};
+ghost use Rattle.rules.specs.Words.{_≡_, true, ℕ, _≤_, _<_, min, length, entry};
 ghost use Rattle.rules.specs.Book.{good, heldSections};
 ghost use Rattle.rules.specs.Expiry;
 use rules::book::Book;

@@ -1,27 +1,11 @@
 -- What the method's definitions say of a good book: of a section held, of a notice filed, and of sums over them, one after the other.
-use Prim.Native.Nat.{ℕ, _+_, _-_, min, max, _≤_, _<_}
-use native.Mathlib.Nat.{add-zero, le-of-lt}
-use native.Mathlib.Numerals.{add-one}
-use native.Mathlib.Omega.{arith}
-use mathlib.Core.Path.{_≡_, refl, sym, ap, ap₂, _∙_}
-use mathlib.Core.Bool.{Bool, true, false, not, cond, _||_, false≢true}
-use mathlib.Core.List.{List, [], _∷_, _++_, map, map-append}
-use lib.Dec.{eqb, leb, ltb}
-use lib.ListN.{length, take}
-use lib.Seq.{take-suc, take-take, getD-take}
-use lib.IntN.{ℤ, pos, negsuc, negℤ, natAbs, _+ℤ_}
-use lib.Signed.{leZ}
-use borrow.Author.Tests.{ltb-true, leb-true}
-use Rattle.numbers.specs.Lists.{_and_, counted, listed, entry}
-use Rattle.numbers.specs.Sums.{gathered, total, totalℤ}
+use Rattle.numbers.proofs.Words.{ℕ, _+_, _-_, min, max, _≤_, _<_, add-zero, le-of-lt, add-one, arith, _≡_, refl, sym, ap, ap₂, _∙_, Bool, true, false, not, cond, _||_, false≢true, List, [], _∷_, _++_, map, map-append, eqb, leb, ltb, length, take, take-suc, take-take, getD-take, ℤ, pos, negsuc, negℤ, natAbs, _+ℤ_, leZ, ltb-true, leb-true, _and_, counted, listed, entry, gathered, total, totalℤ}
+use Rattle.rules.specs.declared.book.{Book.Book, Section.Section, Notice.Notice}
 use Rattle.numbers.proofs.Tests.{both}
 use Rattle.numbers.proofs.Lists.{every-has}
 use Rattle.numbers.proofs.Sums.{naturals, wholes, total-append}
 use Rattle.numbers.proofs.Ranges.{sum-more, listed-length, listed-at}
 use Rattle.numbers.proofs.Whole.{size, negated}
-use Rattle.rules.specs.declared.book.Book.{Book}
-use Rattle.rules.specs.declared.book.Section.{Section}
-use Rattle.rules.specs.declared.book.Notice.{Notice}
 use Rattle.rules.specs.Book.{heldSections, filedNotices, sectionAt, sectionOf, sectionOfNoughts, positionOf, noticeGood, noticeAt, noticeOf, blankNotice}
 use Rattle.rules.specs.Expiry
 use Rattle.rules.specs.Expiry.{isShort, onSideOf, netOfCode}

@@ -1,9 +1,5 @@
 // Step 5: what is drawn of the notices.
-ghost use mathlib.Core.Path.{_≡_};
-ghost use mathlib.Core.Bool.{true};
-ghost use Prim.Native.Nat.{_<_, _-_, min, max};
-ghost use lib.ListN.{length};
-ghost use Rattle.numbers.specs.Lists.{entry};
+ghost use Rattle.rules.specs.Words.{_≡_, true, _<_, _-_, min, max, length, entry};
 ghost use Rattle.rules.specs.Book.{good, heldSections, filedNotices};
 ghost use Rattle.rules.specs.Expiry.Drawing;
 use crate::notices;

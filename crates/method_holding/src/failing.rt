@@ -1,9 +1,5 @@
 // Step 1: who fails.
-ghost use mathlib.Core.Path.{_≡_};
-ghost use mathlib.Core.Bool.{true, cond};
-ghost use mathlib.Core.List.{map};
-ghost use Prim.Native.Nat.{_<_};
-ghost use lib.ListN.{length};
+ghost use Rattle.rules.specs.Words.{_≡_, true, cond, map, _<_, length};
 ghost use Rattle.rules.specs.Book.{good, sectionAt, heldSections, filedNotices};
 ghost use Rattle.rules.specs.Expiry;
 ghost use Rattle.rules.specs.Expiry.Failing;

@@ -1,11 +1,5 @@
 // The net of a code's lots.
-ghost use mathlib.Core.Path.{_≡_};
-ghost use mathlib.Core.Bool.{true, cond};
-ghost use Prim.Native.Nat.{ℕ, _≤_};
-ghost use lib.Dec.{eqb};
-ghost use lib.IntN.{pos};
-ghost use lib.ListN.{length};
-ghost use Rattle.numbers.specs.Lists.{entry, listed};
+ghost use Rattle.rules.specs.Words.{_≡_, true, cond, ℕ, _≤_, eqb, pos, length, entry, listed};
 ghost use Rattle.rules.specs.Book.{good, heldSections, positionOf};
 ghost use Rattle.rules.specs.Expiry;
 use rules::book::Book;

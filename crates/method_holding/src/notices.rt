@@ -1,10 +1,5 @@
 // The notices of a section, laid end to end.
-ghost use mathlib.Core.Path.{_≡_};
-ghost use mathlib.Core.Bool.{true, cond};
-ghost use Prim.Native.Nat.{_≤_};
-ghost use lib.Dec.{eqb};
-ghost use lib.IntN.{natAbs};
-ghost use lib.ListN.{take};
+ghost use Rattle.rules.specs.Words.{_≡_, true, cond, _≤_, eqb, natAbs, take};
 ghost use Rattle.rules.specs.Book.{good};
 ghost use Rattle.rules.specs.Expiry.Failing;
 use rules::book::Book;

@@ -1,19 +1,9 @@
 -- Step 3 closes exactly what is open, and leaves as many long lots as short ones.
-use Prim.Native.Nat.{ℕ, _+_, _-_, _≤_, _<_, min}
-use native.Mathlib.Omega.{arith}
-use mathlib.Core.Path.{_≡_, refl, sym, ap, _∙_}
-use mathlib.Core.Bool.{Bool, true, false, cond, _&&_}
-use mathlib.Core.List.{List}
-use mathlib.Core.Logic.{⊎-elim}
-use lib.Dec.{eqb, ltb}
-use lib.ListN.{length}
-use lib.IntN.{ℤ, natAbs}
-use Rattle.numbers.specs.Lists.{listed, entry, less}
-use Rattle.numbers.specs.Sums.{total}
+use Rattle.numbers.proofs.Words.{ℕ, _+_, _-_, _≤_, _<_, min, arith, _≡_, refl, sym, ap, _∙_, Bool, true, false, cond, _&&_, List, ⊎-elim, eqb, ltb, length, ℤ, natAbs, listed, entry, less, total}
+use Rattle.rules.specs.declared.book.{Section.Section}
 use Rattle.numbers.proofs.Sums.{naturals}
 use Rattle.numbers.proofs.Under.{under-same, under-none, under-two}
 use Rattle.numbers.proofs.Ranges.{listed-at, total-long, sum-same, sum-both, sum-classes, sum-within, sum-nothing}
-use Rattle.rules.specs.declared.book.Section.{Section}
 use Rattle.rules.specs.Book.{positionOf, sectionOf}
 use Rattle.rules.specs.Expiry.{opposed, chosen}
 use Rattle.rules.specs.Expiry.Across.{codeCaps, givenAcross}

@@ -1,23 +1,12 @@
 -- The register's lines are fewer than the delivering long sections and the drawn notices together.
-use Prim.Native.Nat.{ℕ, _+_, _≤_, _<_}
-use native.Mathlib.Omega.{arith}
-use mathlib.Core.Path.{_≡_, refl, sym, ap, _∙_}
-use mathlib.Core.Bool.{Bool, true, false, cond, false≢true}
-use mathlib.Core.List.{List}
-use mathlib.Core.Logic.{_⊎_, ⊎-elim}
-use lib.Dec.{eqb, ltb}
-use lib.ListN.{length}
-use borrow.Author.Tests.{lt-ltb, eqb-true, eq-eqb}
-use Rattle.numbers.specs.Lists.{_and_, listed, entry}
-use Rattle.numbers.specs.Sums.{gathered, total, many}
+use Rattle.numbers.proofs.Words.{ℕ, _+_, _≤_, _<_, arith, _≡_, refl, sym, ap, _∙_, Bool, true, false, cond, false≢true, List, _⊎_, ⊎-elim, eqb, ltb, length, lt-ltb, eqb-true, eq-eqb, _and_, listed, entry, gathered, total, many}
+use Rattle.rules.specs.declared.book.{Section.Section, Notice.Notice}
 use Rattle.numbers.proofs.Ranges.{listed-at, chosen-yes, sum-nothing, sum-both, sum-within, sum-empty}
 use Rattle.numbers.proofs.Sums.{naturals}
 use Rattle.numbers.proofs.Lists.{empty}
 use Rattle.numbers.proofs.Tests.{both, together, below-or-not}
 use Rattle.numbers.proofs.Under.{under-sum, under-two, above-under, above-read}
 use Rattle.numbers.proofs.Counts.{one, one-above, many-same, many-within, many-nowhere, many-classes, live, live-some, firstIn, bothIn, in-classes, both-parts, both-within, both-nowhere}
-use Rattle.rules.specs.declared.book.Section.{Section}
-use Rattle.rules.specs.declared.book.Notice.{Notice}
 use Rattle.rules.specs.Book.{positionOf, sectionOf, noticeOf}
 use Rattle.rules.specs.Expiry.{isLong, isShort}
 use Rattle.rules.specs.Expiry.Passes.{Line, Pass, linesOf, insidePass, outsidePass}

@@ -1,23 +1,11 @@
 -- The method whole: each section's lots in the register are those it delivers, no notice is drawn beyond its lots, and the lines are few.
-use Prim.Native.Nat.{ℕ, _+_, _-_, _≤_, _<_, zero-le}
-use native.Mathlib.Omega.{arith}
-use mathlib.Core.Path.{_≡_, refl, sym, ap, ap₂, subst, _∙_}
-use mathlib.Core.Bool.{Bool, true, false, not, cond, _&&_, _||_, true≢false}
-use mathlib.Core.List.{List, [], map}
-use mathlib.Core.Logic.{inl, ⊎-elim}
-use lib.Dec.{eqb, ltb}
-use lib.ListN.{length}
-use lib.IntN.{ℤ, pos, negsuc, natAbs}
-use borrow.Author.Tests.{eqb-true, not-false, ltb-true, ltb-false}
-use Rattle.numbers.specs.Lists.{_and_, listed, entry, less}
-use Rattle.numbers.specs.Sums.{total, totalℤ, many}
+use Rattle.numbers.proofs.Words.{ℕ, _+_, _-_, _≤_, _<_, zero-le, arith, _≡_, refl, sym, ap, ap₂, subst, _∙_, Bool, true, false, not, cond, _&&_, _||_, true≢false, List, [], map, inl, ⊎-elim, eqb, ltb, length, ℤ, pos, negsuc, natAbs, eqb-true, not-false, ltb-true, ltb-false, _and_, listed, entry, less, total, totalℤ, many}
+use Rattle.rules.specs.declared.book.{Section.Section, Notice.Notice}
 use Rattle.numbers.proofs.Sums.{naturals}
 use Rattle.numbers.proofs.Ranges.{listed-length, less-at, total-long, sum-same, sum-both, sum-nothing, sum-under, sum-classes, sum-part, chosen-yes}
 use Rattle.numbers.proofs.Counts.{many-same, many-most, many-some, many-fewer}
 use Rattle.numbers.proofs.Under.{under-same, under-none, under-sum, under-two, under-swapped}
 use Rattle.numbers.proofs.Tests.{or-right, below-or-not}
-use Rattle.rules.specs.declared.book.Section.{Section}
-use Rattle.rules.specs.declared.book.Notice.{Notice}
 use Rattle.rules.specs.Book.{positionOf, sectionOf, noticeOf}
 use Rattle.rules.specs.Expiry.{size, isLong, isShort}
 use Rattle.rules.specs.Expiry.Failing.{fails, noticed}

@@ -1,23 +1,10 @@
 -- What is drawn of the notices of a short section, laid end to end.
-use Prim.Native.Nat.{ℕ, zero, suc, _+_, _-_, min, max, _≤_, _<_}
-use native.Mathlib.Omega.{arith}
-use mathlib.Core.Path.{_≡_, refl, sym, ap, subst, _∙_}
-use mathlib.Core.Bool.{Bool, true, false, cond}
-use mathlib.Core.List.{List, [], _∷_, _++_}
-use mathlib.Core.Logic.{⊎-elim}
-use lib.Dec.{eqb, ltb}
-use lib.ListN.{length, take}
-use lib.Seq.{take-suc, take-length}
-use lib.IntN.{natAbs}
-use borrow.Author.Tests.{ltb-true, eqb-true}
-use Rattle.numbers.specs.Lists.{_and_, counted, entry, listed}
-use Rattle.numbers.specs.Sums.{gathered, total, many}
+use Rattle.numbers.proofs.Words.{ℕ, zero, suc, _+_, _-_, min, max, _≤_, _<_, arith, _≡_, refl, sym, ap, subst, _∙_, Bool, true, false, cond, List, [], _∷_, _++_, ⊎-elim, eqb, ltb, length, take, take-suc, take-length, natAbs, ltb-true, eqb-true, _and_, counted, entry, listed, gathered, total, many}
+use Rattle.rules.specs.declared.book.{Section.Section, Notice.Notice}
 use Rattle.numbers.proofs.Tests.{and-left, and-right, below-or-not}
 use Rattle.numbers.proofs.Sums.{naturals, total-last}
 use Rattle.numbers.proofs.Ranges.{listed-at, listed-past, listed-under, sum-more}
 use Rattle.numbers.proofs.Counts.{one, many-more, many-most}
-use Rattle.rules.specs.declared.book.Section.{Section}
-use Rattle.rules.specs.declared.book.Notice.{Notice}
 use Rattle.rules.specs.Book.{positionOf, sectionOf, noticeOf, blankNotice}
 use Rattle.rules.specs.Expiry.{isShort}
 use Rattle.rules.specs.Expiry.Failing.{noticed}

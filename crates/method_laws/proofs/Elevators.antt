@@ -1,16 +1,9 @@
 -- What is drawn of the notices, summed at each elevator.
-use Prim.Native.Nat.{ℕ, _+_, _≤_, _<_}
-use native.Mathlib.Omega.{arith}
-use mathlib.Core.Path.{_≡_, sym, _∙_}
-use mathlib.Core.List.{List}
-use mathlib.Core.Logic.{⊎-elim}
-use lib.ListN.{length}
-use Rattle.numbers.specs.Lists.{entry}
-use Rattle.numbers.specs.Sums.{total}
+use Rattle.numbers.proofs.Words.{ℕ, _+_, _≤_, _<_, arith, _≡_, sym, _∙_, List, ⊎-elim, length, entry, total}
+use Rattle.rules.specs.declared.book.{Notice.Notice}
 use Rattle.numbers.proofs.Sums.{naturals}
 use Rattle.numbers.proofs.Tests.{below-or-not}
 use Rattle.numbers.proofs.Ranges.{listed-length, listed-at, listed-past, chosen-no, sum-nothing, sum-classes, total-long}
-use Rattle.rules.specs.declared.book.Notice.{Notice}
 use Rattle.rules.specs.Book.{noticeOf}
 use Rattle.rules.specs.Expiry.Passes.{offers, elevatorLots}
 

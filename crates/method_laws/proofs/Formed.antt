@@ -1,18 +1,7 @@
 -- A pass: its two stages together.
-use Prim.Native.Nat.{ℕ, zero, suc, _+_, _≤_, _<_}
-use native.Mathlib.Nat.{zero-min}
-use native.Mathlib.Omega.{arith}
-use mathlib.Core.Path.{_≡_, refl, sym, ap, _∙_}
-use mathlib.Core.Bool.{Bool, cond}
-use mathlib.Core.List.{List, []}
-use mathlib.Core.Logic.{_⊎_, inl, inr, ⊎-elim}
-use lib.Dec.{eqb, ltb}
-use lib.ListN.{length}
-use Rattle.numbers.specs.Lists.{listed, entry}
-use Rattle.numbers.specs.Sums.{total}
+use Rattle.numbers.proofs.Words.{ℕ, zero, suc, _+_, _≤_, _<_, zero-min, arith, _≡_, refl, sym, ap, _∙_, Bool, cond, List, [], _⊎_, inl, inr, ⊎-elim, eqb, ltb, length, listed, entry, total}
+use Rattle.rules.specs.declared.book.{Section.Section, Notice.Notice}
 use Rattle.numbers.proofs.Counts.{live, many-most, many-same}
-use Rattle.rules.specs.declared.book.Section.{Section}
-use Rattle.rules.specs.declared.book.Notice.{Notice}
 use Rattle.rules.specs.Book.{noticeOf}
 use Rattle.rules.specs.Expiry.Passes.{Pair, Line, Pass, elevatorLots, pairsOf, linesOf, stageTwo}
 use Rattle.method_laws.proofs.Elevators.{elevators-length, elevators-total, elevators-at}

@@ -1,16 +1,6 @@
 -- Sections in an order give what they have, while their code's cap and the whole need last (`taken`, steps 2 to 4).
-use Prim.Native.Nat.{ℕ, _+_, _-_, _≤_, _<_, min}
-use native.Mathlib.Omega.{arith}
-use mathlib.Core.Path.{_≡_, refl, ap, _∙_}
-use mathlib.Core.Bool.{Bool, true, false, cond}
-use mathlib.Core.List.{List, [], _∷_, map}
-use mathlib.Core.Logic.{_⊎_, inl, inr, ⊎-elim}
-use lib.Dec.{eqb, ltb}
-use lib.ListN.{length, set, replicate, length-set, length-replicate}
-use lib.Seq.{getD-set-same, getD-set-other}
-use borrow.Author.Tests.{ltb-true, eqb-true}
-use Rattle.numbers.specs.Lists.{_and_, entry, counted, listed}
-use Rattle.numbers.specs.Sums.{gathered, total, many}
+use Rattle.numbers.proofs.Words.{ℕ, _+_, _-_, _≤_, _<_, min, arith, _≡_, refl, ap, _∙_, Bool, true, false, cond, List, [], _∷_, map, _⊎_, inl, inr, ⊎-elim, eqb, ltb, length, set, replicate, length-set, length-replicate, getD-set-same, getD-set-other, ltb-true, eqb-true, _and_, entry, counted, listed, gathered, total, many}
+use Rattle.rules.specs.declared.book.{Section.Section}
 use Rattle.numbers.proofs.Sums.{naturals, total-set}
 use Rattle.numbers.proofs.Under.{under-none}
 use Rattle.numbers.proofs.Entries.{entry-part, noughts-at, noughts-total, off-entry, off-total}
@@ -18,7 +8,6 @@ use Rattle.numbers.proofs.Counts.{one}
 use Rattle.numbers.proofs.Ranges.{chosen-yes, chosen-no, sum-nothing, sum-changed}
 use Rattle.numbers.proofs.Orders.{ordered-total, times, Once, first-once, first-below, rest-once, ordered-once}
 use Rattle.numbers.proofs.Tests.{and-left, and-right, both, below-or-not, same-or-not}
-use Rattle.rules.specs.declared.book.Section.{Section}
 use Rattle.rules.specs.Book.{sectionOf}
 use Rattle.rules.specs.Expiry.{takenFrom, taken, inOrder}
 

@@ -1,24 +1,12 @@
 -- Step 4: what goes outside of a code is what one side has over the other, and what stays inside is even.
-use Prim.Native.Nat.{ℕ, _+_, _-_, _≤_, _<_, min}
-use native.Mathlib.Nat.{le-trans}
-use native.Mathlib.Omega.{arith}
-use mathlib.Core.Path.{_≡_, sym, ap, _∙_}
-use mathlib.Core.Bool.{Bool, true, false, cond, _&&_, and-true, and-false, or-false}
-use mathlib.Core.List.{List, map}
-use mathlib.Core.Logic.{_⊎_, inl, inr, ⊎-elim}
-use lib.Dec.{eqb, ltb}
-use lib.ListN.{length}
-use lib.IntN.{ℤ, pos, natAbs, _-ℤ_}
-use borrow.Author.Tests.{eqb-true, eq-eqb, lt-ltb, ltb-true}
-use Rattle.numbers.specs.Lists.{_and_, listed, entry, entryℤ, less}
-use Rattle.numbers.specs.Sums.{total, many}
+use Rattle.numbers.proofs.Words.{ℕ, _+_, _-_, _≤_, _<_, min, le-trans, arith, _≡_, sym, ap, _∙_, Bool, true, false, cond, _&&_, and-true, and-false, or-false, List, map, _⊎_, inl, inr, ⊎-elim, eqb, ltb, length, ℤ, pos, natAbs, _-ℤ_, eqb-true, eq-eqb, lt-ltb, ltb-true, _and_, listed, entry, entryℤ, less, total, many}
+use Rattle.rules.specs.declared.book.{Section.Section}
 use Rattle.numbers.proofs.Sums.{naturals}
 use Rattle.numbers.proofs.Whole.{difference-size, difference-above, difference-below}
 use Rattle.numbers.proofs.Counts.{many-within}
 use Rattle.numbers.proofs.Changed.{read-at}
 use Rattle.numbers.proofs.Ranges.{listed-at, listed-length, less-at, sum-same, sum-empty}
 use Rattle.numbers.proofs.Tests.{and-left, and-right, together, below-or-not}
-use Rattle.rules.specs.declared.book.Section.{Section}
 use Rattle.rules.specs.Book.{positionOf, sectionOf}
 use Rattle.rules.specs.Expiry.{size, isLong, isShort, agreed, netOfCode, chosen}
 use Rattle.rules.specs.Expiry.Outside.{outside}

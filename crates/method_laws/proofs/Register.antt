@@ -1,19 +1,9 @@
 -- All passes: the register's lots by buyer and by notice.
-use Prim.Native.Nat.{ℕ, _+_, _≤_, _<_}
-use native.Mathlib.Omega.{arith}
-use mathlib.Core.Path.{_≡_, refl, sym, ap, ap₂, _∙_}
-use mathlib.Core.Bool.{Bool, true, false, cond, _||_, or-true}
-use mathlib.Core.List.{List, [], _∷_, _++_, flatMap}
-use lib.Dec.{eqb}
-use lib.ListN.{length, length-append}
-use lib.IntN.{ℤ}
-use Rattle.numbers.specs.Lists.{listed, entry}
-use Rattle.numbers.specs.Sums.{gathered, total}
+use Rattle.numbers.proofs.Words.{ℕ, _+_, _≤_, _<_, arith, _≡_, refl, sym, ap, ap₂, _∙_, Bool, true, false, cond, _||_, or-true, List, [], _∷_, _++_, flatMap, eqb, length, length-append, ℤ, listed, entry, gathered, total}
+use Rattle.rules.specs.declared.book.{Section.Section, Notice.Notice}
 use Rattle.numbers.proofs.Sums.{naturals, total-joined, total-map, total-within}
 use Rattle.numbers.proofs.Ranges.{listed-at, sum-same, sum-both, sum-one, sum-classes, measured-last}
 use Rattle.numbers.proofs.Under.{under-follows, under-sum, under-two, under-swapped, under-either}
-use Rattle.rules.specs.declared.book.Section.{Section}
-use Rattle.rules.specs.declared.book.Notice.{Notice}
 use Rattle.rules.specs.Book.{positionOf, sectionOf, noticeOf}
 use Rattle.rules.specs.Expiry.{isLong, isShort}
 use Rattle.rules.specs.Expiry.Passes.{Line, Pass, linesOf, insidePass, outsidePass}

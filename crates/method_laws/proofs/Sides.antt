@@ -1,19 +1,9 @@
 -- Lots by section, summed over the sections that pass a test: the two sides of a code, and its net.
-use Prim.Native.Nat.{ℕ, zero, suc, _+_, _≤_, _<_}
-use native.Mathlib.Omega.{arith}
-use mathlib.Core.Path.{_≡_, refl, sym, ap, ap₂, subst, _∙_}
-use mathlib.Core.Bool.{Bool, true, false, cond, _&&_}
-use mathlib.Core.List.{List}
-use lib.Dec.{eqb}
-use lib.ListN.{length}
-use lib.IntN.{ℤ, pos, negsuc, negℤ, natAbs, _+ℤ_, _-ℤ_, +ℤ-idl, +ℤ-idr}
-use borrow.Author.Tests.{lt-ltb, le-ltb}
-use Rattle.numbers.specs.Lists.{_and_, listed, entry, less}
-use Rattle.numbers.specs.Sums.{total}
+use Rattle.numbers.proofs.Words.{ℕ, zero, suc, _+_, _≤_, _<_, arith, _≡_, refl, sym, ap, ap₂, subst, _∙_, Bool, true, false, cond, _&&_, List, eqb, length, ℤ, pos, negsuc, negℤ, natAbs, _+ℤ_, _-ℤ_, +ℤ-idl, +ℤ-idr, lt-ltb, le-ltb, _and_, listed, entry, less, total}
+use Rattle.rules.specs.declared.book.{Section.Section}
 use Rattle.numbers.proofs.Sums.{naturals, wholes}
 use Rattle.numbers.proofs.Under.{under-within, under-sum, under-two}
 use Rattle.numbers.proofs.Ranges.{listed-under, less-at, sum-same, sum-both, sum-classes, sum-within, sum-difference, total-long}
-use Rattle.rules.specs.declared.book.Section.{Section}
 use Rattle.rules.specs.Book.{positionOf, sectionOf}
 use Rattle.rules.specs.Expiry.{size, isLong, isShort, onSideOf, netOfCode, chosen}
 use Rattle.method_laws.proofs.Greedy.{ofCode}

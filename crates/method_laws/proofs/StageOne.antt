@@ -1,22 +1,11 @@
 -- Stage one: the pairs that a pass forms.
-use Prim.Native.Nat.{ℕ, zero, suc, _+_, _-_, _≤_, _<_, min}
-use native.Mathlib.Nat.{min-le-left, min-le-right}
-use native.Mathlib.Omega.{arith}
-use mathlib.Core.Path.{_≡_, refl, sym, ap, _∙_}
-use mathlib.Core.Bool.{Bool, true, false, cond}
-use mathlib.Core.List.{List, [], _∷_, map}
-use mathlib.Core.Logic.{_⊎_, inl, inr, ⊎-elim}
-use lib.Dec.{eqb, ltb}
-use lib.ListN.{length, set}
-use borrow.Author.Tests.{lt-ltb, eqb-true, eqb-false}
-use Rattle.numbers.specs.Lists.{every, entry, largest}
-use Rattle.numbers.specs.Sums.{gathered, total}
+use Rattle.numbers.proofs.Words.{ℕ, zero, suc, _+_, _-_, _≤_, _<_, min, min-le-left, min-le-right, arith, _≡_, refl, sym, ap, _∙_, Bool, true, false, cond, List, [], _∷_, map, _⊎_, inl, inr, ⊎-elim, eqb, ltb, length, set, lt-ltb, eqb-true, eqb-false, every, entry, largest, gathered, total}
+use Rattle.rules.specs.declared.book.{Section.Section}
 use Rattle.numbers.proofs.Entries.{entry-part, none-past, none-total, off-entry, off-total}
 use Rattle.numbers.proofs.Counts.{live, live-empty, live-some, live-off}
 use Rattle.numbers.proofs.Tests.{together, below-or-not}
 use Rattle.numbers.proofs.Ranges.{total-entries}
 use Rattle.numbers.proofs.Orders.{largest-none}
-use Rattle.rules.specs.declared.book.Section.{Section}
 use Rattle.rules.specs.Expiry.{lowerCode}
 use Rattle.rules.specs.Expiry.Passes.{Pair, stageOne}
 

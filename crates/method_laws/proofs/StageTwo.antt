@@ -1,16 +1,6 @@
 -- Stage two: the lines that a pass forms.
-use Prim.Native.Nat.{ℕ, zero, suc, _+_, _-_, _≤_, _<_, min}
-use native.Mathlib.Omega.{arith}
-use mathlib.Core.Path.{_≡_, refl, sym, ap, ap₂, _∙_}
-use mathlib.Core.Bool.{Bool, true, false, cond}
-use mathlib.Core.List.{List, [], _∷_, map}
-use mathlib.Core.Logic.{_⊎_, inl, inr, ⊎-elim}
-use lib.Dec.{eqb}
-use lib.ListN.{length, set, length-set, length-map, List·getD-map}
-use lib.Seq.{getD-set-same}
-use borrow.Author.Tests.{eqb-true, eqb-false}
-use Rattle.numbers.specs.Lists.{entry, listed, largest}
-use Rattle.numbers.specs.Sums.{gathered, total}
+use Rattle.numbers.proofs.Words.{ℕ, zero, suc, _+_, _-_, _≤_, _<_, min, arith, _≡_, refl, sym, ap, ap₂, _∙_, Bool, true, false, cond, List, [], _∷_, map, _⊎_, inl, inr, ⊎-elim, eqb, length, set, length-set, length-map, List·getD-map, getD-set-same, eqb-true, eqb-false, entry, listed, largest, gathered, total}
+use Rattle.rules.specs.declared.book.{Section.Section, Notice.Notice}
 use Rattle.numbers.proofs.Ranges.{listed-at, listed-length, chosen-yes, chosen-no, sum-nothing, sum-changed, sum-part, sum-empty, total-part, total-nothing}
 use Rattle.numbers.proofs.Entries.{entry-place, none-total}
 use Rattle.numbers.proofs.Counts.{one-above, live, live-empty, live-nothing, live-apart, live-set, live-off}
@@ -18,8 +8,6 @@ use Rattle.numbers.proofs.Orders.{largest-most, largest-none}
 use Rattle.numbers.proofs.Sums.{naturals, total-read-set}
 use Rattle.numbers.proofs.Tests.{below-or-not}
 use Rattle.numbers.proofs.Under.{under-none, under-sum, above-read}
-use Rattle.rules.specs.declared.book.Section.{Section}
-use Rattle.rules.specs.declared.book.Notice.{Notice}
 use Rattle.rules.specs.Book.{noticeOf}
 use Rattle.rules.specs.Expiry.{lowerCode}
 use Rattle.rules.specs.Expiry.Passes.{Pair, Line, pairOf, offers, earlierPair, stageTwo}

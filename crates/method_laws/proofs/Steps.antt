@@ -1,22 +1,10 @@
 -- Steps 1 to 4: what is delivered is even over all codes, what stays inside is even in each code, and what goes outside is even.
-use Prim.Native.Nat.{ℕ, _+_, _-_, _≤_, _<_}
-use native.Mathlib.Omega.{arith}
-use mathlib.Core.Path.{_≡_, refl, sym, ap, ap₂, subst, _∙_}
-use mathlib.Core.Bool.{Bool, true, false, cond, false≢true, and-true, and-false, or-false}
-use mathlib.Core.List.{List, [], map}
-use mathlib.Core.Logic.{⊎-elim}
-use lib.Dec.{ltb}
-use lib.ListN.{length, List·getD-map}
-use lib.IntN.{ℤ, pos, negsuc, natAbs, _+ℤ_, _-ℤ_}
-use borrow.Author.Tests.{lt-ltb, le-ltb, ltb-true, ltb-false}
-use Rattle.numbers.specs.Lists.{listed, entry, entryℤ, less}
-use Rattle.numbers.specs.Sums.{total, totalℤ}
+use Rattle.numbers.proofs.Words.{ℕ, _+_, _-_, _≤_, _<_, arith, _≡_, refl, sym, ap, ap₂, subst, _∙_, Bool, true, false, cond, false≢true, and-true, and-false, or-false, List, [], map, ⊎-elim, ltb, length, List·getD-map, ℤ, pos, negsuc, natAbs, _+ℤ_, _-ℤ_, lt-ltb, le-ltb, ltb-true, ltb-false, listed, entry, entryℤ, less, total, totalℤ}
+use Rattle.rules.specs.declared.book.{Section.Section, Notice.Notice}
 use Rattle.numbers.proofs.Whole.{plus, minus, ext, sum, difference, difference-size, difference-above, difference-below}
 use Rattle.numbers.proofs.Sums.{naturals, wholes}
 use Rattle.numbers.proofs.Ranges.{listed-at, listed-read, listed-under, less-at, sum-same, sum-both, sum-difference}
 use Rattle.numbers.proofs.Tests.{below-or-not}
-use Rattle.rules.specs.declared.book.Section.{Section}
-use Rattle.rules.specs.declared.book.Notice.{Notice}
 use Rattle.rules.specs.Book.{positionOf, sectionOf, sectionOfNoughts}
 use Rattle.rules.specs.Expiry.{isLong, isShort, opposed, onSideOf, netOfCode, chosen}
 use Rattle.rules.specs.Expiry

@@ -1,25 +1,10 @@
 -- The place of the largest entry, found by a scan of the list: its start, one turn, and its end. What is drawn of the notices at an elevator. Stage one, as its loop goes.
-use Prim.Native.Nat.{ℕ, zero, suc, _+_, _-_, _≤_, _<_, min}
-use native.Mathlib.Nat.{zero-add}
-use native.Mathlib.Numerals.{add-one}
-use native.Mathlib.Omega.{arith}
-use mathlib.Core.Path.{_≡_, refl, sym, ap, ap₂, _∙_}
-use mathlib.Core.Bool.{Bool, true, false, cond, _&&_, _||_}
-use mathlib.Core.Logic.{⊎-elim}
-use mathlib.Core.List.{List, [], _∷_, _++_, map, map-map, map-append, append-assoc, append-nil}
-use lib.Dec.{ltb, eqb}
-use lib.ListN.{length, length-set, set, drop, drop-of-length-le}
-use lib.Seq.{getD-take, getD-set-same, getD-set-other}
-use borrow.Author.Tests.{ltb-true, eq-eqb, ne-eqb}
-use Rattle.numbers.specs.Lists.{entry, counted, listed, largestFrom, largest}
-use Rattle.numbers.specs.Sums.{gathered, total}
+use Rattle.numbers.proofs.Words.{ℕ, zero, suc, _+_, _-_, _≤_, _<_, min, zero-add, add-one, arith, _≡_, refl, sym, ap, ap₂, _∙_, Bool, true, false, cond, _&&_, _||_, ⊎-elim, List, [], _∷_, _++_, map, map-map, map-append, append-assoc, append-nil, ltb, eqb, length, length-set, set, drop, drop-of-length-le, getD-take, getD-set-same, getD-set-other, ltb-true, eq-eqb, ne-eqb, entry, counted, listed, largestFrom, largest, gathered, total}
+use Rattle.rules.specs.declared.book.{Book.Book, Notice.Notice, Section.Section}
 use Rattle.numbers.proofs.Lists.{has, from-here, every-has}
 use Rattle.numbers.proofs.Ranges.{counted-more, getD-past, listed-length, listed-at, listed-under, sum-more}
 use Rattle.numbers.proofs.Sums.{naturals}
 use Rattle.numbers.proofs.Tests.{and-left, below-or-not, same-or-not}
-use Rattle.rules.specs.declared.book.Book.{Book}
-use Rattle.rules.specs.declared.book.Notice.{Notice}
-use Rattle.rules.specs.declared.book.Section.{Section}
 use Rattle.rules.specs.Book.{good, heldSections, filedNotices, noticeOf, noticeAt, blankNotice, noticeGood}
 use Rattle.rules.specs.Expiry.{lowerCode}
 use Rattle.rules.specs.Expiry.Passes.{Pair, offers, pairOf, stageOne}

@@ -1,23 +1,9 @@
 -- Stage two, as its loop goes: the pairs and what is drawn after a turn, the lines formed so far, and the lists that they are put into.
-use Prim.Native.Nat.{ℕ, zero, suc, _+_, _-_, _≤_, _<_, min}
-use native.Mathlib.Nat.{add-zero}
-use native.Mathlib.Numerals.{add-one}
-use native.Mathlib.Omega.{arith}
-use mathlib.Core.Path.{_≡_, refl, sym, ap, _∙_}
-use mathlib.Core.Bool.{Bool, true, false, cond, _||_}
-use mathlib.Core.Logic.{⊎-elim}
-use mathlib.Core.List.{List, [], _∷_, _++_, map, map-append, append-assoc, append-nil}
-use lib.Dec.{eqb}
-use lib.ListN.{length, length-set, getD, set, take, drop, length-append, length-drop, length-map, take-append-drop}
-use lib.Seq.{drop-cons, set-at, length-take-le, take-suc, getD-set-same, getD-set-other}
-use borrow.Author.Tests.{eq-eqb, ne-eqb, eqb-true, eqb-false}
-use Rattle.numbers.specs.Lists.{entry, listed, put, largest}
+use Rattle.numbers.proofs.Words.{ℕ, zero, suc, _+_, _-_, _≤_, _<_, min, add-zero, add-one, arith, _≡_, refl, sym, ap, _∙_, Bool, true, false, cond, _||_, ⊎-elim, List, [], _∷_, _++_, map, map-append, append-assoc, append-nil, eqb, length, length-set, getD, set, take, drop, length-append, length-drop, length-map, take-append-drop, drop-cons, set-at, length-take-le, take-suc, getD-set-same, getD-set-other, eq-eqb, ne-eqb, eqb-true, eqb-false, entry, listed, put, largest}
+use Rattle.rules.specs.declared.book.{Book.Book, Notice.Notice, Section.Section}
 use Rattle.numbers.proofs.Ranges.{getD-past, listed-entries, listed-length, listed-at, listed-past}
 use Rattle.numbers.proofs.Orders.{largest-place}
 use Rattle.numbers.proofs.Tests.{or-cases, or-left, or-right, same-or-not}
-use Rattle.rules.specs.declared.book.Book.{Book}
-use Rattle.rules.specs.declared.book.Notice.{Notice}
-use Rattle.rules.specs.declared.book.Section.{Section}
 use Rattle.rules.specs.Book.{good, heldSections, filedNotices, noticeOf}
 use Rattle.rules.specs.Expiry.{lowerCode}
 use Rattle.rules.specs.Expiry.Passes.{Pair, Line, offers, pairOf, earlierPair, stageTwo}

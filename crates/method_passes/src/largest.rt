@@ -1,11 +1,5 @@
 // The place of most lots, among equal ones by the paper's keys.
-ghost use mathlib.Core.Path.{_≡_};
-ghost use mathlib.Core.Bool.{true, cond, _&&_, _||_};
-ghost use mathlib.Core.List.{map};
-ghost use Prim.Native.Nat.{ℕ, _≤_, _<_};
-ghost use lib.Dec.{ltb, eqb};
-ghost use lib.ListN.{length};
-ghost use Rattle.numbers.specs.Lists.{entry, largest};
+ghost use Rattle.rules.specs.Words.{_≡_, true, cond, _&&_, _||_, map, ℕ, _≤_, _<_, ltb, eqb, length, entry, largest};
 ghost use Rattle.rules.specs.Book.{good, heldSections, filedNotices, noticeOf};
 ghost use Rattle.rules.specs.Expiry;
 ghost use Rattle.rules.specs.Expiry.Passes;

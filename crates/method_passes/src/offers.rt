@@ -1,10 +1,5 @@
 // What is drawn of the notices at an elevator.
-ghost use mathlib.Core.Path.{_≡_};
-ghost use mathlib.Core.Bool.{true};
-ghost use Prim.Native.Nat.{ℕ, _≤_, _<_};
-ghost use lib.ListN.{length};
-ghost use Rattle.numbers.specs.Lists.{entry};
-ghost use Rattle.numbers.specs.Sums.{total};
+ghost use Rattle.rules.specs.Words.{_≡_, true, ℕ, _≤_, _<_, length, entry, total};
 ghost use Rattle.rules.specs.Book.{good, filedNotices, noticeOf};
 ghost use Rattle.rules.specs.Expiry.Passes;
 use rules::book::Book;

@@ -1,9 +1,5 @@
 // Stage one: pairs of buyers and elevators.
-ghost use mathlib.Core.Path.{_≡_};
-ghost use mathlib.Core.Bool.{true};
-ghost use Prim.Native.Nat.{ℕ, _+_, _≤_, _<_};
-ghost use lib.ListN.{length};
-ghost use Rattle.numbers.specs.Lists.{entry};
+ghost use Rattle.rules.specs.Words.{_≡_, true, ℕ, _+_, _≤_, _<_, length, entry};
 ghost use Rattle.rules.specs.Book.{good, heldSections, filedNotices};
 ghost use Rattle.rules.specs.Expiry.Passes;
 ghost use Rattle.method_passes.specs.Pairs.{pairsIn};

@@ -1,11 +1,5 @@
 // Stage two: lines of pairs and notices.
-ghost use mathlib.Core.Path.{_≡_};
-ghost use mathlib.Core.Bool.{true, cond, _||_};
-ghost use mathlib.Core.List.{map};
-ghost use Prim.Native.Nat.{ℕ, _+_, _≤_, _<_};
-ghost use lib.Dec.{eqb};
-ghost use lib.ListN.{length};
-ghost use Rattle.numbers.specs.Lists.{entry, put};
+ghost use Rattle.rules.specs.Words.{_≡_, true, cond, _||_, map, ℕ, _+_, _≤_, _<_, eqb, length, entry, put};
 ghost use Rattle.rules.specs.Book.{good, heldSections, filedNotices, noticeOf};
 ghost use Rattle.rules.specs.Expiry.Passes;
 ghost use Rattle.method_passes.specs.Pairs.{pairsIn, linesIn};

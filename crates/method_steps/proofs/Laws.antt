@@ -1,24 +1,10 @@
 -- What the steps' calls need of one another: an order holds numbers of sections held, and nets are small.
-use Prim.Native.Nat.{ℕ, zero, suc, _+_, _-_, _*_, _≤_, _<_}
-use native.Mathlib.Nat.{not-suc-le-zero, le-of-suc-le-suc}
-use native.Mathlib.Omega.{arith}
-use mathlib.Core.Path.{_≡_, refl, sym, ap, ap₂, subst, _∙_}
-use mathlib.Core.Bool.{Bool}
-use mathlib.Core.List.{List, [], _∷_, _++_, map}
-use mathlib.Core.Logic.{⊎-elim}
-use lib.ListN.{length, take, drop, replicate, length-append, length-map, List·getD-map}
-use lib.Seq.{take-at}
-use lib.Dec.{ltb}
-use lib.IntN.{ℤ, pos, natAbs, _+ℤ_}
-use Rattle.numbers.specs.Lists.{counted, listed, entry, entryℤ, less, ordered}
-use Rattle.numbers.specs.Sums.{gathered, total, totalℤ}
+use Rattle.numbers.proofs.Words.{ℕ, zero, suc, _+_, _-_, _*_, _≤_, _<_, not-suc-le-zero, le-of-suc-le-suc, arith, _≡_, refl, sym, ap, ap₂, subst, _∙_, Bool, List, [], _∷_, _++_, map, ⊎-elim, length, take, drop, replicate, length-append, length-map, List·getD-map, take-at, ltb, ℤ, pos, natAbs, _+ℤ_, counted, listed, entry, entryℤ, less, ordered, gathered, total, totalℤ}
+use Rattle.rules.specs.declared.book.{Book.Book, Section.Section, Notice.Notice}
 use Rattle.numbers.proofs.Sums.{wholes}
 use Rattle.numbers.proofs.Ranges.{sum-more, listed-at, listed-past, listed-under, less-at, getD-past}
 use Rattle.numbers.proofs.Tests.{below-or-not}
 use Rattle.numbers.proofs.Whole.{sum-within}
-use Rattle.rules.specs.declared.book.Book.{Book}
-use Rattle.rules.specs.declared.book.Section.{Section}
-use Rattle.rules.specs.declared.book.Notice.{Notice}
 use Rattle.rules.specs.Book.{heldSections, filedNotices, positionOf, sectionOf, sectionOfNoughts}
 use Rattle.rules.specs.Expiry
 use Rattle.rules.specs.Expiry.{opposed, chosen, earlier, inOrder, netOfCode}

@@ -1,11 +1,5 @@
 // Step 3: what is left open is closed over all codes together.
-ghost use mathlib.Core.Path.{_≡_};
-ghost use mathlib.Core.Bool.{true, cond};
-ghost use Prim.Native.Nat.{ℕ, _≤_};
-ghost use lib.IntN.{natAbs, _+ℤ_};
-ghost use lib.ListN.{length, replicate};
-ghost use Rattle.numbers.specs.Lists.{entry, entryℤ, listed};
-ghost use Rattle.numbers.specs.Sums.{totalℤ};
+ghost use Rattle.rules.specs.Words.{_≡_, true, cond, ℕ, _≤_, natAbs, _+ℤ_, length, replicate, entry, entryℤ, listed, totalℤ};
 ghost use Rattle.rules.specs.Book.{good, heldSections};
 ghost use Rattle.rules.specs.Expiry;
 ghost use Rattle.rules.specs.Expiry.Across;

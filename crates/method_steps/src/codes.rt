@@ -1,10 +1,5 @@
 // Step 2: what the failing sections of a code leave open is closed within the code.
-ghost use mathlib.Core.Path.{_≡_};
-ghost use mathlib.Core.Bool.{true};
-ghost use Prim.Native.Nat.{ℕ, _≤_};
-ghost use lib.IntN.{natAbs};
-ghost use lib.ListN.{length, replicate};
-ghost use Rattle.numbers.specs.Lists.{entry, entryℤ};
+ghost use Rattle.rules.specs.Words.{_≡_, true, ℕ, _≤_, natAbs, length, replicate, entry, entryℤ};
 ghost use Rattle.rules.specs.Book.{good, heldSections};
 ghost use Rattle.rules.specs.Expiry.Codes;
 use crate::ordered;

@@ -1,11 +1,5 @@
 // Steps 1 to 3 together.
-ghost use mathlib.Core.Path.{_≡_};
-ghost use mathlib.Core.Bool.{true};
-ghost use mathlib.Core.List.{map};
-ghost use Prim.Native.Nat.{ℕ, _≤_};
-ghost use lib.IntN.{natAbs};
-ghost use lib.ListN.{length};
-ghost use Rattle.numbers.specs.Lists.{entry, entryℤ, less};
+ghost use Rattle.rules.specs.Words.{_≡_, true, map, ℕ, _≤_, natAbs, length, entry, entryℤ, less};
 ghost use Rattle.rules.specs.Book.{good, heldSections, filedNotices};
 ghost use Rattle.rules.specs.Expiry;
 ghost use Rattle.rules.specs.Expiry.Across;

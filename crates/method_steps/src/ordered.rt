@@ -1,9 +1,5 @@
 // Sections put in an order give what they have.
-ghost use mathlib.Core.Path.{_≡_};
-ghost use mathlib.Core.Bool.{true, cond};
-ghost use Prim.Native.Nat.{ℕ};
-ghost use lib.Dec.{ltb};
-ghost use lib.ListN.{length, replicate};
+ghost use Rattle.rules.specs.Words.{_≡_, true, cond, ℕ, ltb, length, replicate};
 ghost use Rattle.rules.specs.Book.{good, heldSections};
 ghost use Rattle.rules.specs.Expiry;
 use method_giving::taken;

@@ -1,9 +1,5 @@
 // Step 4: what goes outside.
-ghost use mathlib.Core.Path.{_≡_};
-ghost use mathlib.Core.Bool.{true};
-ghost use Prim.Native.Nat.{ℕ, _≤_};
-ghost use lib.ListN.{length, replicate};
-ghost use Rattle.numbers.specs.Lists.{entry};
+ghost use Rattle.rules.specs.Words.{_≡_, true, ℕ, _≤_, length, replicate, entry};
 ghost use Rattle.rules.specs.Book.{good, heldSections};
 ghost use Rattle.rules.specs.Expiry.Outside;
 use crate::ordered;

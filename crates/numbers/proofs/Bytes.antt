@@ -1,14 +1,5 @@
 -- The byte order is a strict total order on strings of equal length, and `same` is their equality.
-use Prim.Native.Nat.{ℕ, zero, suc, _+_, _≤_, _<_}
-use native.Mathlib.Omega.{arith}
-use mathlib.Core.Path.{_≡_, refl, sym, ap, ap₂, _∙_}
-use mathlib.Core.Logic.{_⊎_, inl, inr, ⊎-elim}
-use mathlib.Core.Bool.{Bool, true, false, _&&_, _||_, true≢false, false≢true}
-use mathlib.Core.List.{List, [], _∷_}
-use lib.Dec.{ltb, eqb}
-use lib.ListN.{length, drop, drop-of-length-le}
-use borrow.Author.Tests.{ltb-true, ltb-false, eqb-true, lt-ltb, le-ltb, eq-eqb, ne-eqb}
-use Rattle.numbers.specs.Bytes.{same, before}
+use Rattle.numbers.proofs.Words.{ℕ, zero, suc, _+_, _≤_, _<_, arith, _≡_, refl, sym, ap, ap₂, _∙_, _⊎_, inl, inr, ⊎-elim, Bool, true, false, _&&_, _||_, true≢false, false≢true, List, [], _∷_, ltb, eqb, length, drop, drop-of-length-le, ltb-true, ltb-false, eqb-true, lt-ltb, le-ltb, eq-eqb, ne-eqb, same, before}
 use Rattle.numbers.proofs.Lists.{Has, from-here}
 use Rattle.numbers.proofs.Tests.{eqb-sym, and-left, and-right, or-cases, or-left, or-right}
 

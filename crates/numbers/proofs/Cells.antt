@@ -1,10 +1,5 @@
 -- A list of known length, cell by cell.
-use Prim.Native.Nat.{ℕ, zero, suc, _+_, _≤_, _<_}
-use native.Mathlib.Omega.{arith}
-use mathlib.Core.Path.{_≡_, refl, sym, ap, ap₂, _∙_}
-use mathlib.Core.List.{List, [], _∷_}
-use lib.ListN.{length, getD, take, drop, length-take, length-drop}
-use lib.Seq.{getD-take, getD-drop}
+use Rattle.numbers.proofs.Words.{ℕ, zero, suc, _+_, _≤_, _<_, arith, _≡_, refl, sym, ap, ap₂, _∙_, List, [], _∷_, length, getD, take, drop, length-take, length-drop, getD-take, getD-drop}
 
 module _ {A : Type 0} where
   -- the list of f 0, f 1, .. up to so many

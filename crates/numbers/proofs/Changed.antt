@@ -1,15 +1,5 @@
 -- Tests over the entries of a list that changes: at one place, by one entry at its end, or in every entry.
-use Prim.Native.Nat.{ℕ, zero, suc, _+_, _-_, _≤_, _<_}
-use native.Mathlib.Nat.{not-suc-le-zero, le-of-suc-le-suc}
-use native.Mathlib.Numerals.{add-one}
-use native.Mathlib.Omega.{arith}
-use mathlib.Core.Path.{_≡_, refl, sym, ap, ap₂, _∙_}
-use mathlib.Core.Bool.{Bool, true, false, not, _&&_, _||_}
-use mathlib.Core.List.{List, [], _∷_, _++_, map}
-use lib.ListN.{length, getD, set, take, drop, replicate}
-use lib.Seq.{take-suc-set, drop-set-lt, drop-drop, getD-drop}
-use borrow.Author.Tests.{not-true}
-use Rattle.numbers.specs.Lists.{every, some, apart}
+use Rattle.numbers.proofs.Words.{ℕ, zero, suc, _+_, _-_, _≤_, _<_, not-suc-le-zero, le-of-suc-le-suc, add-one, arith, _≡_, refl, sym, ap, ap₂, _∙_, Bool, true, false, not, _&&_, _||_, List, [], _∷_, _++_, map, length, getD, set, take, drop, replicate, take-suc-set, drop-set-lt, drop-drop, getD-drop, not-true, every, some, apart}
 use Rattle.numbers.proofs.Tests.{both, together, or-left, or-right}
 
 module _ {A : Type 0} (p : A → Bool) where

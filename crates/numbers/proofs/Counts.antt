@@ -1,16 +1,5 @@
 -- How many of the numbers below n pass a test, and at how many of them more than 0 is read.
-use Prim.Native.Nat.{ℕ, zero, suc, _+_, _-_, _≤_, _<_, min}
-use native.Mathlib.Nat.{not-suc-le-zero}
-use native.Mathlib.Omega.{arith}
-use mathlib.Core.Path.{_≡_, refl, sym, ap, _∙_}
-use mathlib.Core.Bool.{Bool, true, false, cond}
-use mathlib.Core.List.{List}
-use mathlib.Core.Logic.{⊎-elim}
-use lib.Dec.{eqb, ltb}
-use lib.ListN.{length, getD, set, length-set}
-use borrow.Author.Tests.{ltb-true, lt-ltb, le-ltb, eqb-true}
-use Rattle.numbers.specs.Lists.{_and_, counted, listed, entry}
-use Rattle.numbers.specs.Sums.{gathered, total, many}
+use Rattle.numbers.proofs.Words.{ℕ, zero, suc, _+_, _-_, _≤_, _<_, min, not-suc-le-zero, arith, _≡_, refl, sym, ap, _∙_, Bool, true, false, cond, List, ⊎-elim, eqb, ltb, length, getD, set, length-set, ltb-true, lt-ltb, le-ltb, eqb-true, _and_, counted, listed, entry, gathered, total, many}
 use Rattle.numbers.proofs.Sums.{naturals}
 use Rattle.numbers.proofs.Ranges.{sum-more, sum-same, sum-nothing, sum-both, sum-apart, sum-changed, sum-classes, sum-within, sum-empty}
 use Rattle.numbers.proofs.Entries.{entry-place}

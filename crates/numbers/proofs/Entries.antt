@@ -1,15 +1,5 @@
 -- Lists of natural numbers by their entries: an entry and the sum, noughts, and some taken off one entry.
-use Prim.Native.Nat.{ℕ, _+_, _-_, _≤_, _<_}
-use native.Mathlib.Omega.{arith}
-use mathlib.Core.Path.{_≡_, sym, ap, _∙_}
-use mathlib.Core.Bool.{cond}
-use mathlib.Core.List.{List}
-use mathlib.Core.Logic.{⊎-elim}
-use lib.Dec.{eqb}
-use lib.ListN.{length, set, replicate, length-replicate, getD-replicate}
-use lib.Seq.{getD-set-same, getD-set-other, set-out}
-use Rattle.numbers.specs.Lists.{entry}
-use Rattle.numbers.specs.Sums.{total}
+use Rattle.numbers.proofs.Words.{ℕ, _+_, _-_, _≤_, _<_, arith, _≡_, sym, ap, _∙_, cond, List, ⊎-elim, eqb, length, set, replicate, length-replicate, getD-replicate, getD-set-same, getD-set-other, set-out, entry, total}
 use Rattle.numbers.proofs.Sums.{naturals, total-set}
 use Rattle.numbers.proofs.Ranges.{getD-past, chosen-yes, chosen-no, sum-nothing, sum-part, total-entries}
 use Rattle.numbers.proofs.Tests.{below-or-not, same-or-not}

@@ -1,13 +1,5 @@
 -- A list that is filled by number: entry i becomes f i, one turn after the other.
-use Prim.Native.Nat.{ℕ, suc, _+_, _≤_, _<_}
-use native.Mathlib.Nat.{zero-add}
-use native.Mathlib.Numerals.{add-one}
-use native.Mathlib.Omega.{arith}
-use mathlib.Core.Path.{_≡_, refl, ap, ap₂, _∙_}
-use mathlib.Core.List.{List, [], _∷_, _++_, map, map-append, append-assoc, append-nil}
-use lib.ListN.{length, getD, set, drop, drop-of-length-le, length-append, length-drop}
-use lib.Seq.{drop-cons, set-at, getD-at}
-use Rattle.numbers.specs.Lists.{counted, listed}
+use Rattle.numbers.proofs.Words.{ℕ, suc, _+_, _≤_, _<_, zero-add, add-one, arith, _≡_, refl, ap, ap₂, _∙_, List, [], _∷_, _++_, map, map-append, append-assoc, append-nil, length, getD, set, drop, drop-of-length-le, length-append, length-drop, drop-cons, set-at, getD-at, counted, listed}
 use Rattle.numbers.proofs.Ranges.{counted-more, listed-length}
 
 -- after i turns

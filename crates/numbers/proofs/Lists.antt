@@ -1,16 +1,6 @@
 -- Tests over the entries of a list, one entry after the other, as a loop over the list goes: what a test says of
 -- `drop i xs` and of `drop (i + 1) xs`, where x is entry i.
-use Prim.Native.Nat.{ℕ, zero, suc, _+_, _≤_, _<_}
-use native.Mathlib.Nat.{not-suc-le-zero, le-of-suc-le-suc, le-of-lt}
-use native.Mathlib.Numerals.{add-one}
-use native.Mathlib.Omega.{arith}
-use mathlib.Core.Path.{_≡_, refl, sym, ap, _∙_}
-use mathlib.Core.Bool.{Bool, true, false, not}
-use mathlib.Core.List.{List, [], _∷_, _++_, map, map-append, append-assoc}
-use lib.ListN.{length, getD, set, take, drop, drop-of-length-le, length-map, length-append, length-drop, List·getD-append}
-use lib.Seq.{drop-cons, take-suc, set-at, length-take-le, getD-take}
-use borrow.Author.Tests.{not-true}
-use Rattle.numbers.specs.Lists.{every, some, apart, over}
+use Rattle.numbers.proofs.Words.{ℕ, zero, suc, _+_, _≤_, _<_, not-suc-le-zero, le-of-suc-le-suc, le-of-lt, add-one, arith, _≡_, refl, sym, ap, _∙_, Bool, true, false, not, List, [], _∷_, _++_, map, map-append, append-assoc, length, getD, set, take, drop, drop-of-length-le, length-map, length-append, length-drop, List·getD-append, drop-cons, take-suc, set-at, length-take-le, getD-take, not-true, every, some, apart, over}
 use Rattle.numbers.proofs.Tests.{and-left, and-right, or-left, or-right}
 
 -- xs has x at place i

@@ -1,15 +1,5 @@
 -- Numbers and their little-endian bytes are the same thing twice; a list of zero bytes is one list.
-use Prim.Native.Nat.{ℕ, zero, suc, _+_, _/_, _<_, _^_}
-use native.Mathlib.Nat.{div-lt-iff-lt-mul, pow-suc}
-use native.Mathlib.Omega.{arith}
-use mathlib.Core.Path.{_≡_, refl, ap, ap₂, _∙_}
-use mathlib.Core.Bool.{true, _&&_}
-use mathlib.Core.List.{List, [], _∷_}
-use lib.Dec.{eqb}
-use lib.ListN.{length, getD, take, drop, replicate}
-use lib.Seq.{drop-cons, getD-drop}
-use borrow.Author.Tests.{eqb-true}
-use Rattle.numbers.specs.Little.{bytesOf, numberOf, allZero}
+use Rattle.numbers.proofs.Words.{ℕ, zero, suc, _+_, _/_, _<_, _^_, div-lt-iff-lt-mul, pow-suc, arith, _≡_, refl, ap, ap₂, _∙_, true, _&&_, List, [], _∷_, eqb, length, getD, take, drop, replicate, drop-cons, getD-drop, eqb-true, bytesOf, numberOf, allZero}
 use Rattle.numbers.proofs.Tests.{and-left, and-right}
 
 -- every entry is a byte

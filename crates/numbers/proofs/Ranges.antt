@@ -1,18 +1,5 @@
 -- Lists by number: what `listed` holds, and sums over the numbers below n, stated once over what is summed.
-use Prim.Native.Nat.{ℕ, zero, suc, _+_, _-_, _≤_, _<_}
-use native.Mathlib.Nat.{add-zero, zero-add, not-suc-le-zero, le-of-suc-le-suc}
-use native.Mathlib.Omega.{arith}
-use mathlib.Core.Path.{_≡_, refl, sym, ap, ap₂, _∙_}
-use mathlib.Core.Bool.{Bool, true, false, cond}
-use mathlib.Core.List.{List, [], _∷_, _++_, map, map-map, flatMap}
-use mathlib.Core.Logic.{⊎-elim}
-use lib.Dec.{eqb}
-use lib.ListN.{length, getD, set, length-map, List·getD-eq-default}
-use lib.Seq.{getD-set-same, getD-set-other}
-use borrow.Author.Tests.{eq-eqb, ne-eqb}
-use Rattle.numbers.specs.Lists.{counted, listed, entry, less}
-use lib.IntN.{pos, _+ℤ_, _-ℤ_}
-use Rattle.numbers.specs.Sums.{gathered, total, totalℤ}
+use Rattle.numbers.proofs.Words.{ℕ, zero, suc, _+_, _-_, _≤_, _<_, add-zero, zero-add, not-suc-le-zero, le-of-suc-le-suc, arith, _≡_, refl, sym, ap, ap₂, _∙_, Bool, true, false, cond, List, [], _∷_, _++_, map, map-map, flatMap, ⊎-elim, eqb, length, getD, set, length-map, List·getD-eq-default, getD-set-same, getD-set-other, eq-eqb, ne-eqb, counted, listed, entry, less, pos, _+ℤ_, _-ℤ_, gathered, total, totalℤ}
 use Rattle.numbers.proofs.Sums.{Addition, naturals, total-last, total-map, total-kept, total-difference, measured}
 use Rattle.numbers.proofs.Changed.{read-at}
 use Rattle.numbers.proofs.Tests.{same-or-not, below-or-not}

@@ -1,15 +1,6 @@
 -- Laws of sums over lists, stated once over what is summed.
-use Prim.Native.Nat.{ℕ, zero, suc, _+_, _*_, _≤_, _<_, _^_, zero-le}
-use native.Mathlib.Nat.{zero-add, add-assoc, add-comm, not-suc-le-zero, le-of-suc-le-suc, mul-le-mul-left}
-use native.Mathlib.Omega.{arith}
-use mathlib.Core.Path.{_≡_, refl, sym, ap, _∙_}
-use mathlib.Core.List.{List, [], _∷_, _++_, map, map-append, map-map, flatMap}
-use lib.ListN.{length, getD, set, drop, drop-of-length-le, length-map}
-use lib.IntN.{ℤ, pos, negℤ, natAbs, _+ℤ_, _-ℤ_, _*ℤ_, +ℤ-idl, +ℤ-idr, +ℤ-assoc, +ℤ-comm, negℤ-+ℤ, zero-*ℤ}
-use mir.Syntax.{w64}
-use mir.Val.{SFits, toZ, ofZ}
-use mir.Facts.{toZ-ofZ}
-use Rattle.numbers.specs.Sums.{gathered, total, totalℤ}
+use Rattle.numbers.proofs.Words.{ℕ, zero, suc, _+_, _*_, _≤_, _<_, _^_, zero-le, zero-add, add-assoc, add-comm, not-suc-le-zero, le-of-suc-le-suc, mul-le-mul-left, arith, _≡_, refl, sym, ap, _∙_, List, [], _∷_, _++_, map, map-append, map-map, length, getD, set, drop, drop-of-length-le, length-map, ℤ, pos, negℤ, natAbs, _+ℤ_, _-ℤ_, _*ℤ_, +ℤ-idl, +ℤ-idr, +ℤ-assoc, +ℤ-comm, negℤ-+ℤ, zero-*ℤ, w64, SFits, toZ, ofZ, toZ-ofZ, gathered, total, totalℤ}
+use mathlib.Core.List.{flatMap}
 use Rattle.numbers.proofs.Lists.{Has, from-here}
 use Rattle.numbers.proofs.Changed.{read-set, read-at}
 use Rattle.numbers.proofs.Whole.{plus, minus, ext, sum, sum-product, size, sfits-size}

@@ -1,10 +1,5 @@
 -- Tests, as Bools: what a joint test says of its parts, and the other way round.
-use mathlib.Core.Path.{_≡_, refl, sym, _∙_}
-use mathlib.Core.Logic.{_⊎_, inl, inr}
-use mathlib.Core.Bool.{Bool, true, false, not, _&&_, _||_, true≢false, false≢true}
-use Prim.Native.Nat.{ℕ, _≤_, _<_}
-use lib.Dec.{leb, ltb, eqb}
-use borrow.Author.Tests.{not-true, not-false, ltb-true, ltb-false, lt-ltb, le-ltb, lt-leb, le-leb, eqb-true, eqb-false, eq-eqb, ne-eqb}
+use Rattle.numbers.proofs.Words.{_≡_, refl, sym, _∙_, _⊎_, inl, inr, Bool, true, false, not, _&&_, _||_, true≢false, false≢true, ℕ, _≤_, _<_, leb, ltb, eqb, not-true, not-false, ltb-true, ltb-false, lt-ltb, le-ltb, lt-leb, le-leb, eqb-true, eqb-false, eq-eqb, ne-eqb}
 
 pub and-left : (a b : Bool) → (a && b) ≡ true → a ≡ true
 and-left true b e = refl

@@ -1,9 +1,5 @@
 -- What is read under a test: x where the test passes, and 0 where it does not.
-use Prim.Native.Nat.{ℕ, _+_, _≤_, _<_}
-use native.Mathlib.Omega.{arith}
-use mathlib.Core.Path.{_≡_, refl, ap}
-use mathlib.Core.Bool.{Bool, true, false, cond, _&&_, _||_}
-use lib.Dec.{ltb}
+use Rattle.numbers.proofs.Words.{ℕ, _+_, _≤_, _<_, arith, _≡_, refl, ap, Bool, true, false, cond, _&&_, _||_, ltb}
 
 -- it is at most x
 pub under-within : (t : Bool) (x : ℕ) → cond t x 0 ≤ x

@@ -1,19 +1,7 @@
 -- The bridge from ℤ to ℕ: `omega` does not read ℤ, so a whole number is seen as its two sides in ℕ.
 -- A linear identity is `ext _ _ (omega (arith, sum x y, ..))`, a range is a bound on the sides.
-use Prim.Native.Nat.{ℕ, zero, suc, _+_, _-_, _*_, _≤_, _<_, _^_}
-use native.Mathlib.Nat.{add-zero, zero-add, mul-le-mul}
-use native.Mathlib.Omega.{arith}
-use mathlib.Core.Path.{_≡_, refl, sym, ap, _∙_}
-use mathlib.Core.Bool.{Bool, true, false, not, cond, true≢false}
-use mathlib.Core.Logic.{_⊎_, inl, inr, ⊎-elim}
+use Rattle.numbers.proofs.Words.{ℕ, zero, suc, _+_, _-_, _*_, _≤_, _<_, _^_, add-zero, zero-add, mul-le-mul, arith, _≡_, refl, sym, ap, _∙_, Bool, true, false, not, cond, true≢false, _⊎_, inl, inr, ⊎-elim, leb, ltb, leb·suc-suc, ℤ, pos, negsuc, negℤ, natAbs, subℕ, _+ℤ_, _-ℤ_, _*ℤ_, mag, leZ, ltZ, ltb-true, ltb-false, leb-true, lt-ltb, le-ltb, le-leb, lt-leb, Width, w64, SFits, hbits, toZ, ofZ, toZ-ofZ}
 use Rattle.numbers.proofs.Tests.{leb-ltb, ltb-as}
-use lib.Dec.{leb, ltb, leb·suc-suc}
-use lib.IntN.{ℤ, pos, negsuc, negℤ, natAbs, subℕ, _+ℤ_, _-ℤ_, _*ℤ_}
-use lib.Signed.{mag, leZ, ltZ}
-use borrow.Author.Tests.{ltb-true, ltb-false, leb-true, lt-ltb, le-ltb, le-leb, lt-leb}
-use mir.Syntax.{Width, w64}
-use mir.Val.{SFits, hbits, toZ, ofZ}
-use mir.Facts.{toZ-ofZ}
 
 -- the side above 0, and the side below it
 abbrev pub plus : ℤ → ℕ

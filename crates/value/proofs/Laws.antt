@@ -1,13 +1,7 @@
 -- Laws of the rounding and of V, for callers: they are used instead of the definitions' text.
-use Prim.Native.Nat.{ℕ, zero, suc, _+_, _-_, _*_, _/_, _%_, _≤_, _<_}
-use native.Mathlib.Nat.{div-zero, div-add-mod', div-eq-of-lt-le, div-mul-le-self, le-div-iff-mul-le, le-trans, mul-le-mul, mod-lt}
-use native.Mathlib.Omega.{arith}
-use lib.Dec.{lit<}
-use mathlib.Core.Path.{_≡_, refl, ap}
-use lib.IntN.{ℤ, negℤ, natAbs}
+use Rattle.numbers.proofs.Words.{ℕ, zero, suc, _+_, _-_, _*_, _/_, _%_, _≤_, _<_, div-zero, div-add-mod', div-eq-of-lt-le, div-mul-le-self, le-div-iff-mul-le, le-trans, mul-le-mul, mod-lt, arith, lit<, _≡_, refl, ap, ℤ, negℤ, natAbs}
+use Rattle.rules.specs.declared.units.{Kopecks.Kopecks, Lots.Lots}
 use Rattle.numbers.proofs.Whole.{product-within, negated-product}
-use Rattle.rules.specs.declared.units.Kopecks.{Kopecks}
-use Rattle.rules.specs.declared.units.Lots.{Lots}
 use Rattle.rules.specs.Units.{worth}
 use Rattle.rules.specs.Value.{rounded, value, valueOf}
 

@@ -1,7 +1,5 @@
 // The factor K, the value V of a price, and what lots are worth at it.
-ghost use mathlib.Core.Path.{_≡_};
-ghost use Prim.Native.Nat.{_≤_};
-ghost use lib.IntN.{natAbs};
+ghost use Rattle.rules.specs.Words.{_≡_, _≤_, natAbs};
 ghost use Rattle.rules.specs.Units;
 ghost use Rattle.rules.specs.Value;
 ghost use Rattle.rules.specs.Value.{valueOf};

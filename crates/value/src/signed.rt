@@ -1,6 +1,5 @@
 // Signed arithmetic in leaves that ask only that the result fits, and the test of a limit.
-ghost use mathlib.Core.Path.{_≡_};
-ghost use lib.IntN.{natAbs, _+ℤ_, _-ℤ_, _*ℤ_};
+ghost use Rattle.rules.specs.Words.{_≡_, natAbs, _+ℤ_, _-ℤ_, _*ℤ_};
 ghost use mir.Syntax.{w64};
 ghost use mir.Val.{SFits};
 ghost use Rattle.numbers.specs.Whole;

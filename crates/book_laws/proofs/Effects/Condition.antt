@@ -1,12 +1,6 @@
 -- What a condition call does: the mark of one section, and nothing else.
-use Prim.Native.Nat.{ℕ, _<_}
-use mathlib.Core.Path.{_≡_, refl, sym, ap, _∙_}
-use mathlib.Core.Bool.{Bool}
-use mathlib.Core.List.{List, []}
-use lib.ListN.{getD, List·getD-map}
-use lib.Seq.{getD-set-same, getD-set-other, map-set-same}
-use Rattle.rules.specs.declared.book.Book.{Book}
-use Rattle.rules.specs.declared.book.Section.{Section}
+use Rattle.numbers.proofs.Words.{ℕ, _<_, _≡_, refl, sym, ap, _∙_, Bool, List, [], getD, List·getD-map, getD-set-same, getD-set-other, map-set-same}
+use Rattle.rules.specs.declared.book.{Book.Book, Section.Section}
 use Rattle.rules.specs.Book.{sectionAt, sectionOfNoughts}
 use Rattle.rules.specs.Calls.{marked, afterCondition}
 use Rattle.book_laws.proofs.Good.{Good}

@@ -1,10 +1,6 @@
 -- What a notice call does: one notice more at the end, and no section is touched.
-use Prim.Native.Nat.{ℕ, _+_, _<_}
-use native.Mathlib.Omega.{arith}
-use mathlib.Core.Path.{_≡_, refl}
-use lib.Seq.{getD-set-same, getD-set-other}
-use lib.IntN.{pos}
-use Rattle.rules.specs.declared.book.Book.{Book}
+use Rattle.numbers.proofs.Words.{ℕ, _+_, _<_, arith, _≡_, refl, getD-set-same, getD-set-other, pos}
+use Rattle.rules.specs.declared.book.{Book.Book}
 use Rattle.rules.specs.Book.{noticeAt, blankNotice}
 use Rattle.rules.specs.Calls.{afterNotice}
 use Rattle.book_laws.proofs.Good.{Good}

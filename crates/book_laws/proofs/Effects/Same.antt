@@ -1,7 +1,6 @@
 -- What a call leaves as it was: of a book, and of a section.
-use mathlib.Core.Path.{_≡_, sym, subst}
-use Rattle.rules.specs.declared.book.Book.{Book}
-use Rattle.rules.specs.declared.book.Section.{Section}
+use Rattle.numbers.proofs.Words.{_≡_, sym, subst}
+use Rattle.rules.specs.declared.book.{Book.Book, Section.Section}
 
 -- the contract's terms, so V too, and the expired mark
 pub record SameTerms (new old : Book) : Type 0 where

@@ -1,15 +1,7 @@
 -- What a section call does: one section more, and those held stay as they were.
-use Prim.Native.Nat.{ℕ, _+_, _<_}
-use native.Mathlib.Omega.{arith}
-use mathlib.Core.Path.{_≡_, refl, sym, ap, _∙_}
-use mathlib.Core.Bool.{Bool, false}
-use mathlib.Core.Logic.{⊎-elim}
-use mathlib.Core.List.{List, []}
-use lib.Seq.{getD-set-same, getD-set-other}
-use lib.IntN.{pos}
+use Rattle.numbers.proofs.Words.{ℕ, _+_, _<_, arith, _≡_, refl, sym, ap, _∙_, Bool, false, ⊎-elim, List, [], getD-set-same, getD-set-other, pos}
+use Rattle.rules.specs.declared.book.{Book.Book, Section.Section}
 use Rattle.numbers.proofs.Tests.{same-or-not}
-use Rattle.rules.specs.declared.book.Book.{Book}
-use Rattle.rules.specs.declared.book.Section.{Section}
 use Rattle.rules.specs.Book.{positionOf, basisOf, sectionAt, sectionOfNoughts, blankSection}
 use Rattle.rules.specs.Calls.{newSection, withSection}
 use Rattle.book_laws.proofs.Blank.{rest-read}

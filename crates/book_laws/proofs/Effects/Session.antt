@@ -1,16 +1,8 @@
 -- What a session does, by section number.
-use Prim.Native.Nat.{ℕ, _≤_, _<_}
-use native.Mathlib.Omega.{arith}
-use mathlib.Core.Path.{_≡_, refl, sym, ap, _∙_}
-use mathlib.Core.Logic.{⊎-elim}
-use mathlib.Core.List.{List, [], map}
-use lib.ListN.{getD, length-map, List·getD-eq-default}
-use lib.Seq.{getD-take}
-use lib.IntN.{pos}
+use Rattle.numbers.proofs.Words.{ℕ, _≤_, _<_, arith, _≡_, refl, sym, ap, _∙_, ⊎-elim, List, [], map, getD, length-map, List·getD-eq-default, getD-take, pos}
+use Rattle.rules.specs.declared.book.{Book.Book, Section.Section}
 use Rattle.numbers.proofs.Tests.{below-or-not}
 use Rattle.numbers.proofs.Changed.{read-at, same-rest}
-use Rattle.rules.specs.declared.book.Book.{Book}
-use Rattle.rules.specs.declared.book.Section.{Section}
 use Rattle.rules.specs.Units.{worth}
 use Rattle.rules.specs.Book.{positionOf, basisOf, heldSections, sectionAt, sectionOfNoughts, valueAt}
 use Rattle.rules.specs.Calls.{settled, marginOf, margins, following, afterSession}

@@ -1,17 +1,6 @@
 -- What a trade does, by section number.
-use Prim.Native.Nat.{ℕ, _+_, _≤_, zero-le}
-use mathlib.Core.Path.{_≡_, refl, sym, ap, _∙_}
-use mathlib.Core.Bool.{Bool, true, false}
-use mathlib.Core.List.{[]}
-use lib.Dec.{eqb}
-use lib.ListN.{set}
-use lib.Seq.{lt-length-set, getD-set-same, getD-set-other}
-use lib.IntN.{ℤ, pos, negℤ, natAbs, _+ℤ_, +ℤ-idr, zero-*ℤ}
-use borrow.Author.Tests.{eqb-true, eqb-false}
-use Rattle.rules.specs.declared.book.Book.{Book}
-use Rattle.rules.specs.declared.book.Section.{Section}
-use Rattle.rules.specs.declared.units.Lots.{Lots}
-use Rattle.rules.specs.declared.units.Kopecks.{Kopecks}
+use Rattle.numbers.proofs.Words.{ℕ, _+_, _≤_, zero-le, _≡_, refl, sym, ap, _∙_, Bool, true, false, [], eqb, set, lt-length-set, getD-set-same, getD-set-other, ℤ, pos, negℤ, natAbs, _+ℤ_, +ℤ-idr, zero-*ℤ, eqb-true, eqb-false}
+use Rattle.rules.specs.declared.{book.Book.Book, book.Section.Section, units.Lots.Lots, units.Kopecks.Kopecks}
 use Rattle.rules.specs.Units.{worth}
 use Rattle.rules.specs.Book.{positionOf, basisOf, sectionAt, sectionOfNoughts, valueAt}
 use Rattle.rules.specs.Calls.{moved, traded}

@@ -1,11 +1,6 @@
 -- An accepted condition call leaves a good book.
-use Prim.Native.Nat.{ℕ}
-use native.Mathlib.Omega.{arith}
-use mathlib.Core.Path.{_≡_, refl, sym}
-use mathlib.Core.Bool.{Bool, true}
-use lib.IntN.{pos, +ℤ-idr}
-use Rattle.rules.specs.declared.book.Book.{Book}
-use Rattle.rules.specs.declared.book.Section.{Section}
+use Rattle.numbers.proofs.Words.{ℕ, arith, _≡_, refl, sym, Bool, true, pos, +ℤ-idr}
+use Rattle.rules.specs.declared.book.{Book.Book, Section.Section}
 use Rattle.rules.specs.Book.{good, sectionAt, sectionOfNoughts}
 use Rattle.rules.specs.Calls.{conditionNumber, marked, afterCondition}
 use Rattle.book_laws.proofs.Accepted.{condition}

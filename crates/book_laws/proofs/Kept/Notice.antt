@@ -1,17 +1,8 @@
 -- An accepted notice call leaves a good book.
-use Prim.Native.Nat.{ℕ, _<_}
-use native.Mathlib.Omega.{arith}
-use mathlib.Core.Path.{_≡_, refl, ap, ap₂, _∙_}
-use mathlib.Core.Bool.{true, _&&_}
-use mathlib.Core.List.{[], _∷_, _++_}
-use lib.ListN.{length, drop, length-set}
-use lib.IntN.{pos}
-use borrow.Author.Tests.{lt-ltb, le-leb}
-use Rattle.numbers.specs.Lists.{every, apart}
+use Rattle.numbers.proofs.Words.{ℕ, _<_, arith, _≡_, refl, ap, ap₂, _∙_, true, _&&_, [], _∷_, _++_, length, drop, length-set, pos, lt-ltb, le-leb, every, apart}
+use Rattle.rules.specs.declared.book.{Book.Book, Notice.Notice}
 use Rattle.numbers.proofs.Tests.{together, eqb-sym}
 use Rattle.numbers.proofs.Changed.{every-append, every-drop, apart-more, take-more, drop-more}
-use Rattle.rules.specs.declared.book.Book.{Book}
-use Rattle.rules.specs.declared.book.Notice.{Notice}
 use Rattle.rules.specs.Book.{good, noticeGood, noticeBlank, noticesAlike, filedNotices}
 use Rattle.rules.specs.Calls.{noticeNumber, afterNotice}
 use Rattle.book_laws.proofs.Accepted.{NewNotice, notice}

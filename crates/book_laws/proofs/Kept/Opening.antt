@@ -1,12 +1,5 @@
 -- An accepted opening makes a good book.
-use Prim.Native.Nat.{ℕ}
-use native.Mathlib.Omega.{arith}
-use mathlib.Core.Path.{_≡_, refl}
-use mathlib.Core.Bool.{true}
-use lib.ListN.{length-replicate}
-use Rattle.numbers.specs.Whole.{between}
-use Rattle.numbers.specs.Lists.{every, apart}
-use Rattle.numbers.specs.Sums.{gathered}
+use Rattle.numbers.proofs.Words.{ℕ, arith, _≡_, refl, true, length-replicate, between, every, apart, gathered}
 use Rattle.numbers.proofs.Tests.{both}
 use Rattle.numbers.proofs.Changed.{every-replicate}
 use Rattle.rules.specs.Book.{opened, good, blankSection, blankNotice, sectionBlank, noticeBlank}

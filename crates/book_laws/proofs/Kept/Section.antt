@@ -1,22 +1,10 @@
 -- An accepted section call leaves a good book.
-use Prim.Native.Nat.{ℕ, _+_, _<_, zero-le}
-use native.Mathlib.Omega.{arith}
-use mathlib.Core.Path.{_≡_, refl, ap, _∙_}
-use mathlib.Core.Bool.{Bool, true, false}
-use mathlib.Core.List.{List, [], _∷_, _++_, map}
-use lib.Dec.{ltb}
-use lib.ListN.{length, drop, length-set}
-use lib.IntN.{pos}
-use borrow.Author.Tests.{ltb-true, lt-ltb, le-leb}
-use Rattle.numbers.specs.Lists.{every, some, apart}
-use Rattle.numbers.specs.Sums.{totalℤ}
+use Rattle.numbers.proofs.Words.{ℕ, _+_, _<_, zero-le, arith, _≡_, refl, ap, _∙_, Bool, true, false, List, [], _∷_, _++_, map, ltb, length, drop, length-set, pos, ltb-true, lt-ltb, le-leb, every, some, apart, totalℤ}
+use Rattle.rules.specs.declared.book.{Book.Book, Section.Section, Notice.Notice}
 use Rattle.numbers.proofs.Tests.{both, together}
 use Rattle.numbers.proofs.Bytes.{same-sym}
 use Rattle.numbers.proofs.Changed.{every-append, every-drop, every-weaker, apart-more, take-more, drop-more}
 use Rattle.numbers.proofs.Sums.{total-more}
-use Rattle.rules.specs.declared.book.Book.{Book}
-use Rattle.rules.specs.declared.book.Section.{Section}
-use Rattle.rules.specs.declared.book.Notice.{Notice}
 use Rattle.rules.specs.Book.{good, positionOf, basisOf, sectionGood, basisMost, sectionBlank, noticeGood, codesAlike, heldSections, filedNotices}
 use Rattle.rules.specs.Calls.{sectionNumber, newSection, withSection}
 use Rattle.book_laws.proofs.Accepted.{NewSection, section}

@@ -1,21 +1,9 @@
 -- A call that changes sections held and the last session, and neither adds a section nor files a notice, leaves a good
 -- book where the sections it leaves are good.
-use Prim.Native.Nat.{ℕ, _≤_, _<_}
-use native.Mathlib.Omega.{arith}
-use mathlib.Core.Path.{_≡_, refl, sym, ap, _∙_}
-use mathlib.Core.Bool.{true}
-use mathlib.Core.List.{List, map}
-use lib.ListN.{length, getD, set, take, drop, length-set}
-use lib.Seq.{take-set-lt, drop-set-lt, getD-take, map-set-same, length-take-le}
-use lib.IntN.{ℤ, pos, natAbs, _+ℤ_}
-use Rattle.numbers.specs.Lists.{every, apart}
-use Rattle.numbers.specs.Sums.{totalℤ}
-use Rattle.numbers.specs.Bytes.{same}
+use Rattle.numbers.proofs.Words.{ℕ, _≤_, _<_, arith, _≡_, refl, sym, ap, _∙_, true, List, map, length, getD, set, take, drop, length-set, take-set-lt, drop-set-lt, getD-take, map-set-same, length-take-le, ℤ, pos, natAbs, _+ℤ_, every, apart, totalℤ, same}
+use Rattle.rules.specs.declared.book.{Book.Book, Section.Section, LastSession.LastSession}
 use Rattle.numbers.proofs.Changed.{apart-read, every-set, every-weaker}
 use Rattle.numbers.proofs.Sums.{total-moved}
-use Rattle.rules.specs.declared.book.Book.{Book}
-use Rattle.rules.specs.declared.book.Section.{Section}
-use Rattle.rules.specs.declared.book.LastSession.{LastSession}
 use Rattle.rules.specs.Book.{positionOf, basisOf, basisMost, lastGood, sectionGood, sectionBlank, heldSections}
 use Rattle.book_laws.proofs.Good.{Good, SectionGood, section-facts, section-test}
 

@@ -1,21 +1,8 @@
 -- An accepted session leaves a good book.
-use Prim.Native.Nat.{ℕ, _≤_}
-use native.Mathlib.Omega.{arith}
-use mathlib.Core.Path.{_≡_, refl, sym, ap, _∙_}
-use mathlib.Core.Bool.{true}
-use mathlib.Core.List.{List, map, map-map}
-use lib.ListN.{length, drop, length-map}
-use lib.Seq.{take-at, drop-at, length-front}
-use lib.IntN.{pos, natAbs}
-use Rattle.numbers.specs.Lists.{every}
-use Rattle.numbers.specs.Sums.{totalℤ}
+use Rattle.numbers.proofs.Words.{ℕ, _≤_, arith, _≡_, refl, sym, ap, _∙_, true, List, map, map-map, length, drop, length-map, take-at, drop-at, length-front, pos, natAbs, every, totalℤ}
+use Rattle.rules.specs.declared.{book.Book.Book, book.Section.Section, book.LastSession.LastSession, book.LastSession.the-variants.None, book.LastSession.the-variants.Day, book.LastSession.the-variants.Evening, units.Kopecks.Kopecks}
 use Rattle.numbers.proofs.Changed.{every-read, every-weaker}
 use Rattle.value.proofs.Laws.{value-within, worth-within}
-use Rattle.rules.specs.declared.book.Book.{Book}
-use Rattle.rules.specs.declared.book.Section.{Section}
-use Rattle.rules.specs.declared.book.LastSession.{LastSession}
-use Rattle.rules.specs.declared.book.LastSession.the-variants.{None, Day, Evening}
-use Rattle.rules.specs.declared.units.Kopecks.{Kopecks}
 use Rattle.rules.specs.Book.{good, lastGood, positionOf, basisOf, sectionGood, heldSections, valueAt}
 use Rattle.rules.specs.Calls.{sessionNumber, following, settled, afterSession}
 use Rattle.book_laws.proofs.Accepted.{session}

@@ -1,17 +1,8 @@
 -- An accepted trade leaves a good book.
-use Prim.Native.Nat.{ℕ, _+_, _≤_, _<_}
-use native.Mathlib.Omega.{arith}
-use mathlib.Core.Path.{_≡_, refl, sym, subst, subst₂}
-use mathlib.Core.Bool.{true}
-use mathlib.Core.List.{[]}
-use lib.ListN.{getD, set}
-use lib.Seq.{getD-set-other}
-use lib.IntN.{ℤ, pos, negℤ, natAbs, _+ℤ_, +ℤ-idl, +ℤ-invr}
+use Rattle.numbers.proofs.Words.{ℕ, _+_, _≤_, _<_, arith, _≡_, refl, sym, subst, subst₂, true, [], getD, set, getD-set-other, ℤ, pos, negℤ, natAbs, _+ℤ_, +ℤ-idl, +ℤ-invr}
+use Rattle.rules.specs.declared.{book.Book.Book, book.Section.Section, units.Lots.Lots}
 use Rattle.value.proofs.Laws.{value-within, worth-within, worth-sold}
 use Rattle.numbers.proofs.Whole.{sum-within}
-use Rattle.rules.specs.declared.book.Book.{Book}
-use Rattle.rules.specs.declared.book.Section.{Section}
-use Rattle.rules.specs.declared.units.Lots.{Lots}
 use Rattle.rules.specs.Units.{worth}
 use Rattle.rules.specs.Value.{factor}
 use Rattle.rules.specs.Book.{good, positionOf, basisOf, sectionAt, sectionOfNoughts, valueAt}

@@ -1,9 +1,6 @@
-use Prim.Native.Nat.{_<_}
-use native.Mathlib.Omega.{arith}
-use mathlib.Core.Path.{refl}
+use Rattle.numbers.proofs.Words.{_<_, arith, refl, needs}
 use Rattle.rules.specs.Calls.{marked, afterCondition}
 use Rattle.book_laws.proofs.Accepted.{NewCondition, condition}
-use borrow.Author.Needs.{needs}
 use Rattle.call_condition.proofs.marked.Statement.{statement}
 use Rattle.call_condition.proofs.marked.Tie as tie
 

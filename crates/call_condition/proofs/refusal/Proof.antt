@@ -1,4 +1,4 @@
-use borrow.Author.Tests.{lt-leb, le-leb}
+use Rattle.numbers.proofs.Words.{lt-leb, le-leb}
 use Rattle.rules.specs.Calls.{first, conditionNumber}
 use Rattle.call_condition.proofs.refusal.Statement.{statement}
 use Rattle.call_condition.proofs.refusal.Tie as tie

@@ -1,10 +1,6 @@
-use Prim.Native.Nat.{_<_}
-use native.Mathlib.Omega.{arith}
-use mir.Syntax.{w64}
-use mir.Facts.{toZ-pos}
+use Rattle.numbers.proofs.Words.{_<_, arith, w64, toZ-pos, needs}
 use Rattle.rules.specs.Calls.{afterNotice}
 use Rattle.book_laws.proofs.Accepted.{notice}
-use borrow.Author.Needs.{needs}
 use Rattle.call_notice.proofs.filed.Statement.{statement}
 use Rattle.call_notice.proofs.filed.Tie as tie
 

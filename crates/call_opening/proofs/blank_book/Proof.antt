@@ -1,4 +1,4 @@
-use borrow.Author.Needs.{needs}
+use Rattle.numbers.proofs.Words.{needs}
 use Rattle.call_opening.proofs.blank_book.Statement.{statement}
 use Rattle.call_opening.proofs.blank_book.Tie as tie
 

@@ -1,9 +1,8 @@
-use mathlib.Core.Path.{ap, _∙_}
-use Rattle.rules.specs.declared.book.Book.{Book}
+use Rattle.numbers.proofs.Words.{ap, _∙_, needs}
+use Rattle.rules.specs.declared.book.{Book.Book}
 use Rattle.rules.specs.Book.{noBook}
 use Rattle.rules.specs.Calls.{openingAnswer}
 use Rattle.book_laws.proofs.Answers.{refused, accepted}
-use borrow.Author.Needs.{needs}
 use Rattle.call_opening.proofs.open.Statement.{statement}
 use Rattle.call_opening.proofs.open.Tie as tie
 

@@ -1,6 +1,6 @@
 use Rattle.numbers.proofs.Tests.{failed, passed}
 use Rattle.rules.specs.Calls.{first, openingNumber}
-use borrow.Author.Needs.{needs}
+use Rattle.numbers.proofs.Words.{needs}
 use Rattle.call_opening.proofs.refusal.Statement.{statement}
 use Rattle.call_opening.proofs.refusal.Tie as tie
 

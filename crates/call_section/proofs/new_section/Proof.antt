@@ -1,4 +1,4 @@
-use mathlib.Core.Path.{refl}
+use Rattle.numbers.proofs.Words.{refl}
 use Rattle.rules.specs.Calls.{newSection}
 use Rattle.call_section.proofs.new_section.Statement.{statement}
 use Rattle.call_section.proofs.new_section.Tie as tie

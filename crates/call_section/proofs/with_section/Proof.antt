@@ -1,8 +1,6 @@
-use Prim.Native.Nat.{_<_}
-use native.Mathlib.Omega.{arith}
+use Rattle.numbers.proofs.Words.{_<_, arith, needs}
 use Rattle.rules.specs.Calls.{withSection}
 use Rattle.book_laws.proofs.Accepted.{section}
-use borrow.Author.Needs.{needs}
 use Rattle.call_section.proofs.with_section.Statement.{statement}
 use Rattle.call_section.proofs.with_section.Tie as tie
 

@@ -1,23 +1,12 @@
-use Prim.Native.Nat.{ℕ, _-_, _≤_, _<_}
-use native.Mathlib.Omega.{arith}
-use mathlib.Core.Path.{_≡_, refl, sym, ap, ap₂, subst, _∙_}
-use mathlib.Core.List.{List, [], _++_, map}
-use lib.ListN.{length, set, take, drop, length-map}
-use lib.Seq.{length-take-le}
-use lib.IntN.{ℤ, natAbs}
-use mir.Syntax.{w64}
-use mir.Val.{toZ, ofZ}
-use mir.Facts.{toZ-ofZ}
+use Rattle.numbers.proofs.Words.{ℕ, _-_, _≤_, _<_, arith, _≡_, refl, sym, ap, ap₂, subst, _∙_, List, [], _++_, map, length, set, take, drop, length-map, length-take-le, ℤ, natAbs, w64, toZ, ofZ, toZ-ofZ, needs}
+use Rattle.rules.specs.declared.{book.Section.Section, units.Kopecks.Kopecks}
 use Rattle.numbers.proofs.Lists.{Has, has, written-next, written-length}
 use Rattle.value.proofs.Laws.{value-within}
-use Rattle.rules.specs.declared.book.Section.{Section}
-use Rattle.rules.specs.declared.units.Kopecks.{Kopecks}
 use Rattle.rules.specs.Book.{sectionAt, sectionOfNoughts, valueAt}
 use Rattle.rules.specs.Calls.{settled, marginOf, margins, afterSession}
 use Rattle.book_laws.proofs.Accepted.{NewSession, session}
 use Rattle.book_laws.proofs.Good.{Good, test}
 use Rattle.book_laws.proofs.Held.{held-good, held-basis}
-use borrow.Author.Needs.{needs}
 use Rattle.call_session.proofs.after_session.Statement.{statement}
 use Rattle.call_session.proofs.after_session.Tie as tie
 

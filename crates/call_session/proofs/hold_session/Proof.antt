@@ -1,9 +1,7 @@
-use native.Mathlib.Omega.{arith}
-use mathlib.Core.Path.{sym, _∙_}
+use Rattle.numbers.proofs.Words.{arith, sym, _∙_, needs}
 use Rattle.numbers.proofs.Tests.{failed, passed}
 use Rattle.rules.specs.Calls.{sessionNumber, sessionAnswer, sessionMargins}
 use Rattle.book_laws.proofs.Answers.{refused, accepted, kept, written, bad-book}
-use borrow.Author.Needs.{needs}
 use Rattle.call_session.proofs.hold_session.Statement.{statement}
 use Rattle.call_session.proofs.hold_session.Tie as tie
 

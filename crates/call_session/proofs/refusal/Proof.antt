@@ -1,7 +1,6 @@
-use borrow.Author.Tests.{lt-ltb, le-ltb}
+use Rattle.numbers.proofs.Words.{lt-ltb, le-ltb, needs}
 use Rattle.numbers.proofs.Tests.{failed, passed}
 use Rattle.rules.specs.Calls.{first, sessionNumber}
-use borrow.Author.Needs.{needs}
 use Rattle.call_session.proofs.refusal.Statement.{statement}
 use Rattle.call_session.proofs.refusal.Tie as tie
 

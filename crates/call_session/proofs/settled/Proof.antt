@@ -1,6 +1,5 @@
-use borrow.Author.Needs.{needs}
-use mathlib.Core.Path.{ap}
-use Rattle.rules.specs.declared.units.Kopecks.{Kopecks}
+use Rattle.numbers.proofs.Words.{needs, ap}
+use Rattle.rules.specs.declared.units.{Kopecks.Kopecks}
 use Rattle.rules.specs.Calls.{settled}
 use Rattle.call_session.proofs.settled.Statement.{statement}
 use Rattle.call_session.proofs.settled.Tie as tie

@@ -1,12 +1,7 @@
-use native.Mathlib.Omega.{arith}
-use mathlib.Core.Path.{_≡_, sym, ap, ap₂, subst₂, _∙_}
-use lib.IntN.{ℤ, natAbs, _+ℤ_}
-use mir.Syntax.{w64}
-use mir.Val.{SFits, toZ, ofZ}
-use mir.Facts.{toZ-ofZ}
+use Rattle.numbers.proofs.Words.{arith, _≡_, sym, ap, ap₂, subst₂, _∙_, ℤ, natAbs, _+ℤ_, w64, SFits, toZ, ofZ, toZ-ofZ}
+use Rattle.rules.specs.declared.units.{Kopecks.Kopecks}
 use Rattle.numbers.proofs.Whole.{sum-within, sfits-size, read-back}
 use Rattle.value.proofs.Laws.{worth-within}
-use Rattle.rules.specs.declared.units.Kopecks.{Kopecks}
 use Rattle.rules.specs.Units.{worth}
 use Rattle.rules.specs.Book.{positionOf, basisOf}
 use Rattle.rules.specs.Calls.{moved}

@@ -1,4 +1,4 @@
-use borrow.Author.Tests.{lt-leb, le-leb, eq-eqb, ne-eqb}
+use Rattle.numbers.proofs.Words.{lt-leb, le-leb, eq-eqb, ne-eqb}
 use Rattle.rules.specs.Calls.{first, partyRefusals}
 use Rattle.call_trade.proofs.party_refusal.Statement.{statement}
 use Rattle.call_trade.proofs.party_refusal.Tie as tie

@@ -1,14 +1,6 @@
-use native.Mathlib.Omega.{arith}
-use mathlib.Core.Path.{_≡_, sym, ap, ap₂, subst₂, _∙_}
-use mathlib.Core.Bool.{not}
-use lib.IntN.{ℤ, natAbs, _+ℤ_}
-use mir.Syntax.{w64}
-use mir.Val.{SFits, toZ, ofZ}
-use mir.Facts.{toZ-ofZ}
-use Rattle.numbers.specs.Whole.{within}
+use Rattle.numbers.proofs.Words.{arith, _≡_, sym, ap, ap₂, subst₂, _∙_, not, ℤ, natAbs, _+ℤ_, w64, SFits, toZ, ofZ, toZ-ofZ, within, needs}
 use Rattle.numbers.proofs.Whole.{sum, size, sfits-size, read-back}
 use Rattle.rules.specs.Book.{positionOf}
-use borrow.Author.Needs.{needs}
 use Rattle.call_trade.proofs.passes.Statement.{statement}
 use Rattle.call_trade.proofs.passes.Tie as tie
 

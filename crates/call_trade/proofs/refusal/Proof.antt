@@ -1,10 +1,8 @@
-use mathlib.Core.Path.{_≡_, sym, _∙_}
-use mathlib.Core.List.{_++_}
+use Rattle.numbers.proofs.Words.{_≡_, sym, _∙_, _++_, needs}
 use Rattle.rules.specs.Calls.{first, tradeNumber, partyRefusals, sizeRefusals, roomRefusals}
 use Rattle.book_laws.proofs.Accepted.{parties, sizes, parties-numbered, sizes-numbered}
 use Rattle.book_laws.proofs.Answers.{first-hit, first-pass}
 use Rattle.book_laws.proofs.Good.{facts}
-use borrow.Author.Needs.{needs}
 use Rattle.call_trade.proofs.refusal.Statement.{statement}
 use Rattle.call_trade.proofs.refusal.Tie as tie
 

@@ -1,13 +1,9 @@
-use native.Mathlib.Omega.{arith}
-use mathlib.Core.Path.{_≡_, sym, ap, _∙_}
-use borrow.Author.Tests.{lt-leb, le-leb}
-use lib.IntN.{pos, negℤ}
+use Rattle.numbers.proofs.Words.{arith, _≡_, sym, ap, _∙_, lt-leb, le-leb, pos, negℤ, needs}
 use Rattle.rules.specs.Book.{sectionAt}
 use Rattle.rules.specs.Calls.{first, roomRefusals, passes}
 use Rattle.book_laws.proofs.Good.{Good, facts}
 use Rattle.book_laws.proofs.Held.{held-good}
 use Rattle.book_laws.proofs.Lots.{bought, bought-small, sold, sold-fits, sold-small}
-use borrow.Author.Needs.{needs}
 use Rattle.call_trade.proofs.room_refusal.Statement.{statement}
 use Rattle.call_trade.proofs.room_refusal.Tie as tie
 

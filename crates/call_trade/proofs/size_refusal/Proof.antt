@@ -1,8 +1,6 @@
-use Prim.Native.Nat.{_%_}
-use borrow.Author.Tests.{eq-eqb, ne-eqb}
+use Rattle.numbers.proofs.Words.{_%_, eq-eqb, ne-eqb, needs}
 use Rattle.numbers.proofs.Tests.{failed, passed}
 use Rattle.rules.specs.Calls.{first, sizeRefusals}
-use borrow.Author.Needs.{needs}
 use Rattle.call_trade.proofs.size_refusal.Statement.{statement}
 use Rattle.call_trade.proofs.size_refusal.Tie as tie
 

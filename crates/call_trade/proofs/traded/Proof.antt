@@ -1,16 +1,12 @@
-use Prim.Native.Nat.{_≤_, _<_}
-use native.Mathlib.Omega.{arith}
-use mathlib.Core.Path.{_≡_, ap, ap₂, sym, subst, _∙_}
-use lib.IntN.{ℤ, pos, negℤ, natAbs}
+use Rattle.numbers.proofs.Words.{_≤_, _<_, arith, _≡_, ap, ap₂, sym, subst, _∙_, ℤ, pos, negℤ, natAbs, needs}
+use Rattle.rules.specs.declared.units.{Kopecks.Kopecks}
 use Rattle.value.proofs.Laws.{value-within}
-use Rattle.rules.specs.declared.units.Kopecks.{Kopecks}
 use Rattle.rules.specs.Book.{sectionAt, valueAt}
 use Rattle.rules.specs.Calls.{moved, traded}
 use Rattle.book_laws.proofs.Accepted.{NewTrade, trade}
 use Rattle.book_laws.proofs.Good.{Good, test}
 use Rattle.book_laws.proofs.Held.{held-good, held-basis}
 use Rattle.book_laws.proofs.Lots.{bought, bought-small, sold, sold-fits, sold-small}
-use borrow.Author.Needs.{needs}
 use Rattle.call_trade.proofs.traded.Statement.{statement}
 use Rattle.call_trade.proofs.traded.Tie as tie
 

@@ -1,11 +1,7 @@
 -- Two numbers within 10^18 have a sum that fits.
-use borrow.Author.Needs.{needs}
-use native.Mathlib.Omega.{arith}
-use borrow.Author.Tests.{leb-true}
+use Rattle.numbers.proofs.Words.{needs, arith, leb-true, w64, toZ, ofZ}
 use Rattle.numbers.proofs.Tests.{passed}
 use Rattle.numbers.proofs.Whole.{sum-within, sfits-size}
-use mir.Syntax.{w64}
-use mir.Val.{toZ, ofZ}
 use Rattle.example_calls.proofs.added.Statement.{statement}
 use Rattle.example_calls.proofs.added.Tie as tie
 

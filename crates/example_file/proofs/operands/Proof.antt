@@ -1,5 +1,4 @@
-use borrow.Author.Needs.{needs}
-use Prim.Native.Nat.{_-_}
+use Rattle.numbers.proofs.Words.{needs, _-_}
 use Rattle.example_file.proofs.operands.Statement.{statement}
 use Rattle.example_file.proofs.operands.Tie as tie
 

@@ -1,8 +1,7 @@
 use Rattle.numbers.proofs.Tests.{failed, passed}
-use borrow.Author.Tests.{lt-leb, le-leb}
+use Rattle.numbers.proofs.Words.{lt-leb, le-leb, needs}
 use Rattle.rules.specs.Book.{good}
 use Rattle.book_laws.proofs.Good.{counts}
-use borrow.Author.Needs.{needs}
 use Rattle.judge.proofs.good.Statement.{statement}
 use Rattle.judge.proofs.good.Tie as tie
 

@@ -1,6 +1,6 @@
 use Rattle.numbers.proofs.Tests.{failed, passed}
 use Rattle.rules.specs.Book.{tailsBlank}
-use borrow.Author.Needs.{needs}
+use Rattle.numbers.proofs.Words.{needs}
 use Rattle.judge.proofs.tails_blank.Statement.{statement}
 use Rattle.judge.proofs.tails_blank.Tie as tie
 

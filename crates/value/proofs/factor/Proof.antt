@@ -1,4 +1,4 @@
-use borrow.Author.Needs.{needs}
+use Rattle.numbers.proofs.Words.{needs}
 use Rattle.rules.specs.Value.{factor}
 use Rattle.value.proofs.factor.Statement.{statement}
 use Rattle.value.proofs.factor.Tie as tie

@@ -1,9 +1,5 @@
 -- The quotient, or one more where the remainder is at least half the divisor.
-use borrow.Author.Needs.{needs}
-use Prim.Native.Nat.{_/_, _%_, _<_}
-use native.Mathlib.Nat.{mod-lt, pos-of-ne-zero, le-mul-of-pos-right, div-add-mod'}
-use mathlib.Core.Path.{sym}
-use native.Mathlib.Omega.{arith}
+use Rattle.numbers.proofs.Words.{needs, _/_, _%_, _<_, mod-lt, pos-of-ne-zero, le-mul-of-pos-right, div-add-mod', sym, arith}
 use Rattle.value.proofs.Laws.{rounded-none, rounded-down, rounded-up}
 use Rattle.value.proofs.rounded.Statement.{statement}
 use Rattle.value.proofs.rounded.Tie as tie

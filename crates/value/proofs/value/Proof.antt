@@ -1,13 +1,6 @@
 -- Two 32-bit factors: the product fits 64 bits, and a hundred-thousandth of it fits a signed number.
-use borrow.Author.Needs.{needs}
-use Prim.Native.Nat.{_*_, _≤_, _<_, _^_}
-use native.Mathlib.Nat.{mul-le-mul}
-use native.Mathlib.Omega.{arith}
-use mathlib.Core.Path.{ap, _∙_}
-use lib.IntN.{ℤ}
-use mir.Syntax.{w64}
-use mir.Facts.{toZ-pos}
-use Rattle.rules.specs.declared.units.Kopecks.{Kopecks}
+use Rattle.numbers.proofs.Words.{needs, _*_, _≤_, _<_, _^_, mul-le-mul, arith, ap, _∙_, ℤ, w64, toZ-pos}
+use Rattle.rules.specs.declared.units.{Kopecks.Kopecks}
 use Rattle.rules.specs.Value.{rounded, value, valueOf}
 use Rattle.value.proofs.Laws.{rounded-rises}
 use Rattle.value.proofs.value.Statement.{statement}

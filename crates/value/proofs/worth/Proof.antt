@@ -1,11 +1,5 @@
 -- A product within 10^6 · 10^9 fits. The fields are stored as bits, and read back as themselves.
-use Prim.Native.Nat.{_≤_}
-use native.Mathlib.Nat.{mul-le-mul}
-use native.Mathlib.Omega.{arith}
-use mathlib.Core.Path.{_≡_, sym, ap, ap₂, subst₂, _∙_}
-use lib.IntN.{ℤ, natAbs, _*ℤ_}
-use mir.Syntax.{w64}
-use mir.Val.{SFits, toZ, ofZ}
+use Rattle.numbers.proofs.Words.{_≤_, mul-le-mul, arith, _≡_, sym, ap, ap₂, subst₂, _∙_, ℤ, natAbs, _*ℤ_, w64, SFits, toZ, ofZ}
 use Rattle.numbers.proofs.Whole.{sfits-size, size-product, read-back}
 use Rattle.rules.specs.Units.{worth}
 use Rattle.value.proofs.worth.Statement.{statement}

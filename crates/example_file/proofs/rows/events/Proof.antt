@@ -1,9 +1,5 @@
 -- On values the next number is one more, so that the walk ends.
-use borrow.Author.Needs.{needs}
-use Prim.Native.Nat.{_-_}
-use native.Mathlib.Omega.{arith}
-use mathlib.Core.Path.{_≡_, sym, ap, _∙_}
-use denote.Ref.{now}
+use Rattle.numbers.proofs.Words.{needs, _-_, arith, _≡_, sym, ap, _∙_, now}
 use Rattle.rules.specs.declared.events.Read.{Read}
 use Rattle.file_event.proofs.Laws.Cases.{values-next}
 use Rattle.example_file.proofs.rows.events.Statement.{statement}

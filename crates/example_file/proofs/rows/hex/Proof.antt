@@ -1,6 +1,4 @@
-use borrow.Author.Needs.{needs}
-use Prim.Native.Nat.{_≤_, _-_}
-use lib.ListN.{length}
+use Rattle.numbers.proofs.Words.{needs, _≤_, _-_, length}
 use Rattle.example_file.proofs.rows.hex.Statement.{statement}
 use Rattle.example_file.proofs.rows.hex.Tie as tie
 

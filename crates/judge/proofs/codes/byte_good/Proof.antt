@@ -1,5 +1,4 @@
-use native.Mathlib.Omega.{arith}
-use borrow.Author.Tests.{lt-leb, le-leb}
+use Rattle.numbers.proofs.Words.{arith, lt-leb, le-leb}
 use Rattle.judge.proofs.codes.byte_good.Statement.{statement}
 use Rattle.judge.proofs.codes.byte_good.Tie as tie
 

@@ -1,13 +1,6 @@
-use borrow.Author.Needs.{needs}
+use Rattle.numbers.proofs.Words.{needs, eq-eqb, eqb, _+_, _-_, _≤_, arith, _≡_, refl, sym, _∙_, length, drop, every}
 use Rattle.numbers.proofs.Tests.{failed, passed, together, fails-right}
-use borrow.Author.Tests.{eq-eqb}
-use lib.Dec.{eqb}
-use Prim.Native.Nat.{_+_, _-_, _≤_}
-use native.Mathlib.Omega.{arith}
-use mathlib.Core.Path.{_≡_, refl, sym, _∙_}
-use lib.ListN.{length, drop}
 use Rattle.numbers.proofs.Lists.{has, every-next, every-stop, every-end}
-use Rattle.numbers.specs.Lists.{every}
 use Rattle.rules.specs.Book.{byteGood}
 use Rattle.judge.proofs.codes.code_good.Statement.{statement}
 use Rattle.judge.proofs.codes.code_good.Tie as tie

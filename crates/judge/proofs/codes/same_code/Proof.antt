@@ -1,11 +1,6 @@
-use borrow.Author.Needs.{needs}
-use Prim.Native.Nat.{_+_, _-_, _≤_}
-use native.Mathlib.Omega.{arith}
-use mathlib.Core.Path.{_≡_, refl, sym, _∙_}
-use lib.ListN.{length, drop}
+use Rattle.numbers.proofs.Words.{needs, _+_, _-_, _≤_, arith, _≡_, refl, sym, _∙_, length, drop, same}
 use Rattle.numbers.proofs.Lists.{has}
 use Rattle.numbers.proofs.Bytes.{same-next, same-stop, same-end}
-use Rattle.numbers.specs.Bytes.{same}
 use Rattle.judge.proofs.codes.same_code.Statement.{statement}
 use Rattle.judge.proofs.codes.same_code.Tie as tie
 use Rattle.judge.proofs.codes.same_code.Reads as reads

@@ -1,10 +1,6 @@
-use mathlib.Core.Path.{_≡_, _∙_}
-use lib.IntN.{ℤ}
-use Rattle.numbers.specs.Whole.{within}
+use Rattle.numbers.proofs.Words.{_≡_, _∙_, ℤ, within, eq-eqb, ne-eqb, needs}
 use Rattle.numbers.proofs.Whole.{read-as}
-use borrow.Author.Tests.{eq-eqb, ne-eqb}
 use Rattle.rules.specs.Book.{noticeBlank}
-use borrow.Author.Needs.{needs}
 use Rattle.judge.proofs.notices.notice_blank.Statement.{statement}
 use Rattle.judge.proofs.notices.notice_blank.Tie as tie
 

@@ -1,19 +1,10 @@
-use Prim.Native.Nat.{_-_, _≤_}
-use native.Mathlib.Omega.{arith}
-use mathlib.Core.Path.{_≡_, refl, sym, _∙_}
-use mathlib.Core.Bool.{Bool}
-use mathlib.Core.Logic.{⊎-elim}
-use lib.Dec.{eqb}
-use borrow.Author.Tests.{eq-eqb, ne-eqb}
+use Rattle.numbers.proofs.Words.{_-_, _≤_, arith, _≡_, refl, sym, _∙_, Bool, ⊎-elim, eqb, eq-eqb, ne-eqb, length, drop, _and_, needs}
+use Rattle.rules.specs.declared.book.{Notice.Notice}
 use Rattle.numbers.proofs.Tests.{together, fails-left, fails-right}
-use lib.ListN.{length, drop}
-use Rattle.numbers.specs.Lists.{_and_}
 use Rattle.numbers.proofs.Lists.{length-mapped, Has, some-next, some-stop, some-end}
 use Rattle.rules.specs.Book.{filedNotices, noticeAt}
 use Rattle.book_laws.proofs.Held.{filed-length, has-notice}
-use Rattle.rules.specs.declared.book.Notice.{Notice}
 use Rattle.rules.specs.Calls.{noticeFiled}
-use borrow.Author.Needs.{needs}
 use Rattle.judge.proofs.notices.notice_filed.Statement.{statement}
 use Rattle.judge.proofs.notices.notice_filed.Tie as tie
 

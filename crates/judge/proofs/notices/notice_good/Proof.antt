@@ -1,13 +1,6 @@
-use mathlib.Core.Path.{_≡_, sym, ap, _∙_}
-use mathlib.Core.Bool.{Bool, not}
-use lib.IntN.{ℤ, pos}
-use lib.Signed.{leZ, ltZ}
-use mir.Syntax.{w64}
-use mir.Val.{toZ, ofZ}
-use borrow.Author.Tests.{lt-ltb, le-ltb, lt-leb, le-leb}
+use Rattle.numbers.proofs.Words.{_≡_, sym, ap, _∙_, Bool, not, ℤ, pos, leZ, ltZ, w64, toZ, ofZ, lt-ltb, le-ltb, lt-leb, le-leb, needs}
 use Rattle.numbers.proofs.Whole.{read-as, leZ-ltZ}
 use Rattle.rules.specs.Book.{noticeGood}
-use borrow.Author.Needs.{needs}
 use Rattle.judge.proofs.notices.notice_good.Statement.{statement}
 use Rattle.judge.proofs.notices.notice_good.Tie as tie
 

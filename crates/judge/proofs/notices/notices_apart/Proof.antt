@@ -1,12 +1,7 @@
-use Prim.Native.Nat.{_-_, _≤_}
-use native.Mathlib.Omega.{arith}
-use mathlib.Core.Path.{_≡_, refl, sym, _∙_}
-use lib.ListN.{length, drop}
-use Rattle.numbers.specs.Lists.{apart}
+use Rattle.numbers.proofs.Words.{_-_, _≤_, arith, _≡_, refl, sym, _∙_, length, drop, apart, needs}
 use Rattle.numbers.proofs.Lists.{length-mapped, Has, apart-next, apart-stop, apart-end}
 use Rattle.rules.specs.Book.{filedNotices, noticeAt, noticesAlike}
 use Rattle.book_laws.proofs.Held.{filed-length, has-notice}
-use borrow.Author.Needs.{needs}
 use Rattle.judge.proofs.notices.notices_apart.Statement.{statement}
 use Rattle.judge.proofs.notices.notices_apart.Tie as tie
 

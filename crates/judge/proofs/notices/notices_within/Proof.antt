@@ -1,13 +1,8 @@
-use Prim.Native.Nat.{_-_, _≤_}
-use native.Mathlib.Omega.{arith}
-use mathlib.Core.Path.{_≡_, refl, sym, _∙_}
-use lib.ListN.{length, drop}
-use Rattle.numbers.specs.Lists.{every}
+use Rattle.numbers.proofs.Words.{_-_, _≤_, arith, _≡_, refl, sym, _∙_, length, drop, every, needs}
 use Rattle.numbers.proofs.Tests.{failed, passed}
 use Rattle.numbers.proofs.Lists.{length-mapped, Has, every-next, every-stop, every-end}
 use Rattle.rules.specs.Book.{filedNotices, noticeAt, noticeGood}
 use Rattle.book_laws.proofs.Held.{filed-length, has-notice}
-use borrow.Author.Needs.{needs}
 use Rattle.judge.proofs.notices.notices_within.Statement.{statement}
 use Rattle.judge.proofs.notices.notices_within.Tie as tie
 

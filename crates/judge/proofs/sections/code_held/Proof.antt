@@ -1,14 +1,9 @@
-use Prim.Native.Nat.{_-_, _≤_}
-use native.Mathlib.Omega.{arith}
-use mathlib.Core.Path.{_≡_, refl, sym, _∙_}
-use lib.ListN.{length, drop}
-use Rattle.numbers.specs.Bytes.{same}
+use Rattle.numbers.proofs.Words.{_-_, _≤_, arith, _≡_, refl, sym, _∙_, length, drop, same, needs}
+use Rattle.rules.specs.declared.book.{Section.Section}
 use Rattle.numbers.proofs.Lists.{length-mapped, Has, some-next, some-stop, some-end}
 use Rattle.rules.specs.Book.{heldSections, sectionAt}
 use Rattle.book_laws.proofs.Held.{held-length, has-section}
-use Rattle.rules.specs.declared.book.Section.{Section}
 use Rattle.rules.specs.Calls.{codeHeld}
-use borrow.Author.Needs.{needs}
 use Rattle.judge.proofs.sections.code_held.Statement.{statement}
 use Rattle.judge.proofs.sections.code_held.Tie as tie
 

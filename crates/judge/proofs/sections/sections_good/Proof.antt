@@ -1,6 +1,6 @@
 use Rattle.numbers.proofs.Tests.{failed, passed}
 use Rattle.rules.specs.Book.{sectionsGood}
-use borrow.Author.Needs.{needs}
+use Rattle.numbers.proofs.Words.{needs}
 use Rattle.judge.proofs.sections.sections_good.Statement.{statement}
 use Rattle.judge.proofs.sections.sections_good.Tie as tie
 

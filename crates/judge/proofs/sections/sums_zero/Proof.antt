@@ -1,13 +1,4 @@
-use Prim.Native.Nat.{ℕ, _+_, _-_, _*_, _≤_, _<_}
-use native.Mathlib.Omega.{arith}
-use mathlib.Core.Path.{_≡_, sym, ap, subst, _∙_}
-use mathlib.Core.Bool.{true}
-use lib.Dec.{lit<}
-use lib.IntN.{ℤ, natAbs, _+ℤ_}
-use mir.Syntax.{w64}
-use mir.Val.{SFits, toZ, ofZ}
-use lib.ListN.{length}
-use Rattle.numbers.specs.Whole.{within}
+use Rattle.numbers.proofs.Words.{ℕ, _+_, _-_, _*_, _≤_, _<_, arith, _≡_, sym, ap, subst, _∙_, true, lit<, ℤ, natAbs, _+ℤ_, w64, SFits, toZ, ofZ, length, within, needs}
 use Rattle.numbers.proofs.Whole.{read-back}
 use Rattle.numbers.proofs.Sums.{Running, running-none, running-end, running-fits, running-next}
 use Rattle.numbers.proofs.Tests.{failed, passed}
@@ -15,7 +6,6 @@ use Rattle.numbers.proofs.Lists.{length-mapped, Has, every-has}
 use Rattle.rules.specs.Book.{heldSections, sectionAt, positionOf, basisOf, sectionGood}
 use Rattle.book_laws.proofs.Good.{section-facts}
 use Rattle.book_laws.proofs.Held.{held-length, has-section}
-use borrow.Author.Needs.{needs}
 use Rattle.judge.proofs.sections.sums_zero.Statement.{statement}
 use Rattle.judge.proofs.sections.sums_zero.Tie as tie
 

@@ -1,4 +1,4 @@
-use borrow.Author.Tests.{lt-leb, le-leb}
+use Rattle.numbers.proofs.Words.{lt-leb, le-leb}
 use Rattle.judge.proofs.terms.counted.Statement.{statement}
 use Rattle.judge.proofs.terms.counted.Tie as tie
 

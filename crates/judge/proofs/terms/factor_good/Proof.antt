@@ -1,5 +1,4 @@
-use borrow.Author.Tests.{lt-leb, le-leb}
-use borrow.Author.Needs.{needs}
+use Rattle.numbers.proofs.Words.{lt-leb, le-leb, needs}
 use Rattle.judge.proofs.terms.factor_good.Statement.{statement}
 use Rattle.judge.proofs.terms.factor_good.Tie as tie
 

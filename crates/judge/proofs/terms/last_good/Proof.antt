@@ -1,4 +1,4 @@
-use borrow.Author.Needs.{needs}
+use Rattle.numbers.proofs.Words.{needs}
 use Rattle.judge.proofs.terms.last_good.Statement.{statement}
 use Rattle.judge.proofs.terms.last_good.Tie as tie
 

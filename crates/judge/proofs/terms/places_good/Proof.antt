@@ -1,9 +1,6 @@
-use mathlib.Core.Path.{_≡_}
-use lib.ListN.{length}
-use borrow.Author.Tests.{eq-eqb, lt-leb, le-leb}
+use Rattle.numbers.proofs.Words.{_≡_, length, eq-eqb, lt-leb, le-leb, needs}
 use Rattle.numbers.proofs.Lists.{length-mapped}
 use Rattle.rules.specs.Book.{placesGood}
-use borrow.Author.Needs.{needs}
 use Rattle.judge.proofs.terms.places_good.Statement.{statement}
 use Rattle.judge.proofs.terms.places_good.Tie as tie
 

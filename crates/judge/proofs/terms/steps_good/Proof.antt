@@ -1,5 +1,5 @@
 use Rattle.numbers.proofs.Tests.{failed, passed}
-use borrow.Author.Needs.{needs}
+use Rattle.numbers.proofs.Words.{needs}
 use Rattle.judge.proofs.terms.steps_good.Statement.{statement}
 use Rattle.judge.proofs.terms.steps_good.Tie as tie
 

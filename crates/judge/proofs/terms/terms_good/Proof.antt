@@ -1,6 +1,6 @@
 use Rattle.numbers.proofs.Tests.{failed, passed}
 use Rattle.rules.specs.Book.{termsGood}
-use borrow.Author.Needs.{needs}
+use Rattle.numbers.proofs.Words.{needs}
 use Rattle.judge.proofs.terms.terms_good.Statement.{statement}
 use Rattle.judge.proofs.terms.terms_good.Tie as tie
 

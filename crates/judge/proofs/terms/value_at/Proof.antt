@@ -1,9 +1,6 @@
-use Prim.Native.Nat.{ℕ}
-use native.Mathlib.Omega.{arith}
-use mathlib.Core.Path.{ap, _∙_}
+use Rattle.numbers.proofs.Words.{ℕ, arith, ap, _∙_, needs}
 use Rattle.rules.specs.Value.{valueOf}
 use Rattle.book_laws.proofs.Good.{facts}
-use borrow.Author.Needs.{needs}
 use Rattle.judge.proofs.terms.value_at.Statement.{statement}
 use Rattle.judge.proofs.terms.value_at.Tie as tie
 

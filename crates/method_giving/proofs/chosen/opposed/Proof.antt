@@ -1,6 +1,5 @@
 -- The numbers are read back as they were handed over.
-use mathlib.Core.Path.{ap₂}
-use mir.Facts.{toZ-ofZ}
+use Rattle.numbers.proofs.Words.{ap₂, toZ-ofZ}
 use Rattle.rules.specs.Expiry.{opposed}
 use Rattle.method_giving.proofs.chosen.opposed.Statement.{statement}
 use Rattle.method_giving.proofs.chosen.opposed.Tie as tie

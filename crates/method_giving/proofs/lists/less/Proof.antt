@@ -1,12 +1,5 @@
 -- The loop's invariant: the first i entries are what is left of them, and the others are as they were.
-use borrow.Author.Needs.{needs}
-use Prim.Native.Nat.{ℕ, _-_, _≤_}
-use native.Mathlib.Omega.{arith}
-use mathlib.Core.Path.{_≡_, ap, _∙_}
-use mathlib.Core.List.{List}
-use lib.ListN.{length, set}
-use denote.Ref.{now}
-use Rattle.numbers.specs.Lists.{entry, listed}
+use Rattle.numbers.proofs.Words.{needs, ℕ, _-_, _≤_, arith, _≡_, ap, _∙_, List, length, set, now, entry, listed}
 use Rattle.numbers.proofs.Filled.{partly, partly-start, partly-next, partly-here, partly-length, partly-end}
 use Rattle.method_giving.proofs.lists.less.Statement.{statement}
 use Rattle.method_giving.proofs.lists.less.Tie as tie

@@ -1,15 +1,5 @@
 -- The loop's invariant: the first i entries are the sizes of the first i numbers, and the others are as they were.
-use borrow.Author.Needs.{needs}
-use Prim.Native.Nat.{ℕ, _-_, _≤_}
-use native.Mathlib.Omega.{arith}
-use mathlib.Core.Path.{_≡_, refl, ap, ap₂, _∙_}
-use mathlib.Core.List.{List, _++_, map, append-nil}
-use lib.ListN.{length, set, take, drop, drop-of-length-le}
-use lib.Seq.{take-all}
-use lib.IntN.{pos, natAbs}
-use mir.Syntax.{w64}
-use denote.Ref.{now}
-use Rattle.numbers.specs.Lists.{entryℤ}
+use Rattle.numbers.proofs.Words.{needs, ℕ, _-_, _≤_, arith, _≡_, refl, ap, ap₂, _∙_, List, _++_, map, append-nil, length, set, take, drop, drop-of-length-le, take-all, pos, natAbs, w64, now, entryℤ}
 use Rattle.numbers.proofs.Whole.{read-back}
 use Rattle.numbers.proofs.Lists.{has, written-next, written-length}
 use Rattle.method_giving.proofs.lists.magnitudes.Statement.{statement}

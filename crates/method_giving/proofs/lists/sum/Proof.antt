@@ -1,12 +1,5 @@
 -- The loop's invariant: the sum of the first i entries and of what is left is the sum of all.
-use borrow.Author.Needs.{needs}
-use Prim.Native.Nat.{_+_, _-_, _*_, _≤_}
-use native.Mathlib.Omega.{arith}
-use mathlib.Core.Path.{_≡_, ap}
-use lib.ListN.{length, drop, drop-of-length-le}
-use denote.Ref.{now}
-use Rattle.numbers.specs.Lists.{entry}
-use Rattle.numbers.specs.Sums.{gathered, total}
+use Rattle.numbers.proofs.Words.{needs, _+_, _-_, _*_, _≤_, arith, _≡_, ap, length, drop, drop-of-length-le, now, entry, gathered, total}
 use Rattle.numbers.proofs.Lists.{has, from-here}
 use Rattle.method_giving.proofs.lists.sum.Statement.{statement}
 use Rattle.method_giving.proofs.lists.sum.Tie as tie

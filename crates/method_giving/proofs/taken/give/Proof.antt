@@ -1,16 +1,7 @@
 -- The loop's invariant: what is left of the order, on the state now, gives what the whole order gave on the state at the start.
-use borrow.Author.Needs.{needs}
-use Prim.Native.Nat.{ℕ, _+_, _-_, _≤_, _<_, min}
-use native.Mathlib.Omega.{arith}
-use mathlib.Core.Path.{_≡_, refl, sym, ap, _∙_}
-use mathlib.Core.List.{List, []}
-use lib.ListN.{length, set, drop, drop-of-length-le, length-set}
-use lib.Seq.{getD-take}
-use denote.Ref.{now}
-use Rattle.numbers.specs.Lists.{entry}
+use Rattle.numbers.proofs.Words.{needs, ℕ, _+_, _-_, _≤_, _<_, min, arith, _≡_, refl, sym, ap, _∙_, List, [], length, set, drop, drop-of-length-le, length-set, getD-take, now, entry}
+use Rattle.rules.specs.declared.book.{Book.Book, Section.Section}
 use Rattle.numbers.proofs.Lists.{has, from-here}
-use Rattle.rules.specs.declared.book.Book.{Book}
-use Rattle.rules.specs.declared.book.Section.{Section}
 use Rattle.rules.specs.Book.{heldSections, sectionAt, sectionOfNoughts}
 use Rattle.rules.specs.Expiry.{takenFrom}
 use Rattle.book_laws.proofs.Good.{Good, facts}

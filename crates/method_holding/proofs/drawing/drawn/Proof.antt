@@ -1,9 +1,5 @@
 -- The loop's invariant: what is drawn of the first k notices is in its places.
-use Prim.Native.Nat.{_-_, _<_}
-use native.Mathlib.Omega.{arith}
-use mathlib.Core.Path.{sym, _∙_}
-use lib.ListN.{length}
-use Rattle.numbers.specs.Lists.{entry}
+use Rattle.numbers.proofs.Words.{_-_, _<_, arith, sym, _∙_, length, entry}
 use Rattle.numbers.proofs.Filled.{Filled, filled-none, filled-length, filled-next, filled-end}
 use Rattle.numbers.proofs.Ranges.{listed-entries}
 use Rattle.rules.specs.Book.{heldSections, filedNotices}

@@ -1,17 +1,7 @@
 -- The definition's tests and sums in its order.
-use Prim.Native.Nat.{ℕ, _+_, _-_, min, max, _<_}
-use native.Mathlib.Omega.{arith}
-use mathlib.Core.Path.{_≡_, sym, ap₂, _∙_}
-use mathlib.Core.Bool.{not}
-use lib.IntN.{ℤ, pos, natAbs}
-use lib.Signed.{leZ}
-use mir.Syntax.{w64}
-use mir.Val.{toZ, ofZ}
-use borrow.Author.Needs.{needs}
-use borrow.Author.Tests.{not-true, not-false}
-use Rattle.numbers.specs.Lists.{entry}
+use Rattle.numbers.proofs.Words.{ℕ, _+_, _-_, min, max, _<_, arith, _≡_, sym, ap₂, _∙_, not, ℤ, pos, natAbs, leZ, w64, toZ, ofZ, needs, not-true, not-false, entry}
+use Rattle.rules.specs.declared.book.{Notice.Notice}
 use Rattle.numbers.proofs.Whole.{read-as, leZ-ltZ}
-use Rattle.rules.specs.declared.book.Notice.{Notice}
 use Rattle.rules.specs.Book.{sectionAt, noticeAt, positionOf}
 use Rattle.rules.specs.Expiry.{isShort}
 use Rattle.book_laws.proofs.Good.{Good, facts}

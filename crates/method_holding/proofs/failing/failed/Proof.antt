@@ -1,8 +1,4 @@
-use Prim.Native.Nat.{_<_}
-use native.Mathlib.Omega.{arith}
-use mathlib.Core.Path.{_∙_}
-use lib.IntN.{natAbs}
-use borrow.Author.Needs.{needs}
+use Rattle.numbers.proofs.Words.{_<_, arith, _∙_, natAbs, needs}
 use Rattle.numbers.proofs.Tests.{failed, passed}
 use Rattle.numbers.proofs.Whole.{read-as}
 use Rattle.rules.specs.Book.{sectionAt, positionOf}

@@ -1,11 +1,7 @@
 -- The loop's invariant: the lots of the first i sections are in their places.
-use Prim.Native.Nat.{ℕ, _-_, _<_}
-use native.Mathlib.Omega.{arith}
-use mathlib.Core.Path.{sym, ap, _∙_}
-use mathlib.Core.Bool.{cond}
-use lib.ListN.{length}
+use Rattle.numbers.proofs.Words.{ℕ, _-_, _<_, arith, sym, ap, _∙_, cond, length}
+use Rattle.rules.specs.declared.book.{Section.Section}
 use Rattle.numbers.proofs.Filled.{Filled, filled-none, filled-length, filled-next, filled-end}
-use Rattle.rules.specs.declared.book.Section.{Section}
 use Rattle.rules.specs.Book.{heldSections, filedNotices, sectionOf}
 use Rattle.rules.specs.Expiry.{size}
 use Rattle.rules.specs.Expiry.Failing.{fails, failing}

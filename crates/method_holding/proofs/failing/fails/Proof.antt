@@ -1,15 +1,5 @@
 -- The tests in the definition's order.
-use Prim.Native.Nat.{ℕ, _<_}
-use native.Mathlib.Omega.{arith}
-use mathlib.Core.Path.{_≡_, sym, ap₂, _∙_}
-use mathlib.Core.Bool.{not}
-use lib.Dec.{eqb}
-use lib.IntN.{ℤ, pos, natAbs}
-use lib.Signed.{leZ}
-use mir.Syntax.{w64}
-use mir.Val.{toZ, ofZ}
-use borrow.Author.Needs.{needs}
-use borrow.Author.Tests.{not-true, not-false}
+use Rattle.numbers.proofs.Words.{ℕ, _<_, arith, _≡_, sym, ap₂, _∙_, not, eqb, ℤ, pos, natAbs, leZ, w64, toZ, ofZ, needs, not-true, not-false}
 use Rattle.numbers.proofs.Whole.{read-as, leZ-ltZ}
 use Rattle.rules.specs.Book.{sectionAt, positionOf}
 use Rattle.rules.specs.Expiry.{size, isShort}

@@ -1,13 +1,5 @@
 -- The loop's invariant: the sizes of the first i sections are in their places.
-use Prim.Native.Nat.{ℕ, _-_, _<_}
-use native.Mathlib.Omega.{arith}
-use mathlib.Core.Path.{_≡_, sym, ap, _∙_}
-use mathlib.Core.List.{[]}
-use lib.IntN.{natAbs}
-use lib.ListN.{length}
-use mir.Syntax.{w64}
-use mir.Val.{toZ, ofZ}
-use borrow.Author.Needs.{needs}
+use Rattle.numbers.proofs.Words.{ℕ, _-_, _<_, arith, _≡_, sym, ap, _∙_, [], natAbs, length, w64, toZ, ofZ, needs}
 use Rattle.numbers.proofs.Whole.{read-as}
 use Rattle.numbers.proofs.Filled.{Filled, filled-none, filled-length, filled-next, filled-end}
 use Rattle.numbers.proofs.Ranges.{listed-read}

@@ -1,14 +1,5 @@
 -- Lots on the side of a position: of a negative one they are taken off.
-use Prim.Native.Nat.{ℕ, _≤_}
-use native.Mathlib.Omega.{arith}
-use mathlib.Core.Path.{_≡_, sym, ap, subst, _∙_}
-use lib.IntN.{ℤ, pos, negℤ, _-ℤ_, +ℤ-idl}
-use lib.Signed.{ltZ}
-use mir.Syntax.{w64}
-use mir.Val.{SFits, toZ, ofZ}
-use mir.Facts.{toZ-ofZ}
-use borrow.Author.Needs.{needs}
-use borrow.Author.Tests.{eq-eqb, ne-eqb}
+use Rattle.numbers.proofs.Words.{ℕ, _≤_, arith, _≡_, sym, ap, subst, _∙_, ℤ, pos, negℤ, _-ℤ_, +ℤ-idl, ltZ, w64, SFits, toZ, ofZ, toZ-ofZ, needs, eq-eqb, ne-eqb}
 use Rattle.numbers.proofs.Whole.{read-back, read-as, sfits-size, difference-within, negative, positive}
 use Rattle.rules.specs.Book.{positionOf}
 use Rattle.method_holding.proofs.nets.adding.Statement.{statement}

@@ -1,16 +1,7 @@
 -- The loop's invariant: the net is that of the first i sections, and within 1,000,000 for each.
-use Prim.Native.Nat.{_+_, _-_, _*_, _≤_, _<_}
-use native.Mathlib.Omega.{arith}
-use mathlib.Core.Path.{_≡_, sym, ap, subst, _∙_}
-use mathlib.Core.Bool.{cond}
-use lib.Dec.{eqb}
-use lib.IntN.{ℤ, pos, natAbs, _+ℤ_}
-use mir.Syntax.{w64}
-use mir.Val.{SFits, toZ, ofZ}
-use mir.Facts.{toZ-ofZ}
-use Rattle.numbers.specs.Lists.{entry}
+use Rattle.numbers.proofs.Words.{_+_, _-_, _*_, _≤_, _<_, arith, _≡_, sym, ap, subst, _∙_, cond, eqb, ℤ, pos, natAbs, _+ℤ_, w64, SFits, toZ, ofZ, toZ-ofZ, entry}
+use Rattle.rules.specs.declared.book.{Section.Section}
 use Rattle.numbers.proofs.Whole.{sum-within, sfits-size}
-use Rattle.rules.specs.declared.book.Section.{Section}
 use Rattle.rules.specs.Book.{heldSections, positionOf}
 use Rattle.rules.specs.Expiry.{onSideOf}
 use Rattle.book_laws.proofs.Good.{Good, facts}

@@ -1,9 +1,5 @@
 -- The loop's invariant: the nets of the first codes are in their places.
-use Prim.Native.Nat.{_-_, _<_}
-use native.Mathlib.Omega.{arith}
-use mathlib.Core.Path.{_∙_}
-use lib.ListN.{length}
-use mir.Facts.{toZ-ofZ}
+use Rattle.numbers.proofs.Words.{_-_, _<_, arith, _∙_, length, toZ-ofZ}
 use Rattle.numbers.proofs.Filled.{Filled, filled-none, filled-length, filled-next, filled-end}
 use Rattle.rules.specs.Book.{heldSections}
 use Rattle.rules.specs.Expiry.{netOfCode}

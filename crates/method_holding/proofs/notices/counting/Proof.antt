@@ -1,8 +1,5 @@
 -- The lots are stored as bits, and read back as themselves.
-use mathlib.Core.Path.{_∙_}
-use lib.IntN.{natAbs}
-use borrow.Author.Needs.{needs}
-use borrow.Author.Tests.{eq-eqb, ne-eqb}
+use Rattle.numbers.proofs.Words.{_∙_, natAbs, needs, eq-eqb, ne-eqb}
 use Rattle.numbers.proofs.Whole.{read-as}
 use Rattle.method_holding.proofs.notices.counting.Statement.{statement}
 use Rattle.method_holding.proofs.notices.counting.Tie as tie

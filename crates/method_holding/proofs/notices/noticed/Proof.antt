@@ -1,9 +1,5 @@
 -- The loop's invariant: the sum is that of the first k notices, and at most 1,000,000 for each.
-use Prim.Native.Nat.{ℕ, _+_, _-_, _*_, _≤_, _<_}
-use native.Mathlib.Omega.{arith}
-use mathlib.Core.Path.{_≡_, sym, ap, ap₂, _∙_}
-use lib.ListN.{take}
-use borrow.Author.Needs.{needs}
+use Rattle.numbers.proofs.Words.{ℕ, _+_, _-_, _*_, _≤_, _<_, arith, _≡_, sym, ap, ap₂, _∙_, take, needs}
 use Rattle.rules.specs.Book.{noticeAt}
 use Rattle.rules.specs.Expiry.Failing.{noticed}
 use Rattle.book_laws.proofs.Good.{Good, facts}

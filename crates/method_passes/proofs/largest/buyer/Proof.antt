@@ -1,9 +1,5 @@
 -- The loop's invariant: the best of the first i entries, and the scan of those left, find the largest of all. So in each scan.
-use borrow.Author.Needs.{needs}
-use Prim.Native.Nat.{_-_}
-use native.Mathlib.Omega.{arith}
-use mathlib.Core.Path.{refl}
-use denote.Ref.{now}
+use Rattle.numbers.proofs.Words.{needs, _-_, arith, refl, now}
 use Rattle.rules.specs.Book.{heldSections}
 use Rattle.rules.specs.Expiry.{lowerCode}
 use Rattle.method_passes.proofs.Laws.{Scan, scan-start, scan-next, scan-end}

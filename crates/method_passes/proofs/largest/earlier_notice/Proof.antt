@@ -1,12 +1,9 @@
-use native.Mathlib.Omega.{arith}
-use mathlib.Core.Path.{sym, ap₂, _∙_}
-use lib.Seq.{getD-take}
-use Rattle.rules.specs.declared.book.Notice.{Notice}
+use Rattle.numbers.proofs.Words.{arith, sym, ap₂, _∙_, getD-take, needs}
+use Rattle.rules.specs.declared.book.{Notice.Notice}
 use Rattle.rules.specs.Book.{heldSections, blankNotice}
 use Rattle.rules.specs.Expiry.{lowerCode}
 use Rattle.book_laws.proofs.Good.{facts}
 use Rattle.method_passes.proofs.Laws.{seller-held}
-use borrow.Author.Needs.{needs}
 use Rattle.method_passes.proofs.largest.earlier_notice.Statement.{statement}
 use Rattle.method_passes.proofs.largest.earlier_notice.Tie as tie
 

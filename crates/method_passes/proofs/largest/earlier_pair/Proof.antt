@@ -1,9 +1,4 @@
-use mathlib.Core.Path.{ap}
-use mathlib.Core.Bool.{Bool, _||_}
-use lib.Dec.{ltb, eqb}
-use denote.Ref.{now}
-use Rattle.numbers.specs.Lists.{entry, _and_}
-use borrow.Author.Needs.{needs}
+use Rattle.numbers.proofs.Words.{ap, Bool, _||_, ltb, eqb, now, entry, _and_, needs}
 use Rattle.method_passes.proofs.largest.earlier_pair.Statement.{statement}
 use Rattle.method_passes.proofs.largest.earlier_pair.Tie as tie
 

@@ -1,9 +1,4 @@
-use borrow.Author.Needs.{needs}
-use Prim.Native.Nat.{_-_}
-use native.Mathlib.Omega.{arith}
-use mathlib.Core.Path.{refl}
-use denote.Ref.{now}
-use lib.Dec.{ltb}
+use Rattle.numbers.proofs.Words.{needs, _-_, arith, refl, now, ltb}
 use Rattle.method_passes.proofs.Laws.{Scan, scan-start, scan-next, scan-end}
 use Rattle.method_passes.proofs.largest.elevator.Statement.{statement}
 use Rattle.method_passes.proofs.largest.elevator.Tie as tie

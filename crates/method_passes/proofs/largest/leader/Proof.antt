@@ -1,5 +1,4 @@
-use mathlib.Core.Path.{sym, ap}
-use mathlib.Core.Bool.{Bool, cond}
+use Rattle.numbers.proofs.Words.{sym, ap, Bool, cond}
 use Rattle.method_passes.proofs.largest.leader.Statement.{statement}
 use Rattle.method_passes.proofs.largest.leader.Tie as tie
 

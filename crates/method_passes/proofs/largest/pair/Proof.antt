@@ -1,11 +1,5 @@
-use borrow.Author.Needs.{needs}
-use Prim.Native.Nat.{ℕ, _-_, _<_}
-use native.Mathlib.Omega.{arith}
-use mathlib.Core.Path.{sym, ap₂, _∙_}
-use mathlib.Core.Bool.{Bool}
-use mathlib.Core.List.{List}
-use denote.Ref.{now}
-use Rattle.rules.specs.declared.book.Book.{Book}
+use Rattle.numbers.proofs.Words.{needs, ℕ, _-_, _<_, arith, sym, ap₂, _∙_, Bool, List, now}
+use Rattle.rules.specs.declared.book.{Book.Book}
 use Rattle.rules.specs.Book.{heldSections}
 use Rattle.rules.specs.Expiry.Passes.{Pair, pairOf, earlierPair}
 use Rattle.method_passes.specs.Pairs.{pairsIn}

@@ -1,14 +1,6 @@
 -- The loop's invariant: the first e entries are the sums at their elevators, and the others are as they were.
-use borrow.Author.Needs.{needs}
-use Prim.Native.Nat.{ℕ, _-_, _≤_}
-use native.Mathlib.Omega.{arith}
-use mathlib.Core.Path.{_≡_, ap, _∙_}
-use mathlib.Core.List.{List}
-use lib.ListN.{length, set}
-use denote.Ref.{now}
-use Rattle.numbers.specs.Sums.{total}
-use Rattle.numbers.specs.Lists.{listed}
-use Rattle.rules.specs.declared.book.Book.{Book}
+use Rattle.numbers.proofs.Words.{needs, ℕ, _-_, _≤_, arith, _≡_, ap, _∙_, List, length, set, now, total, listed}
+use Rattle.rules.specs.declared.book.{Book.Book}
 use Rattle.rules.specs.Book.{filedNotices}
 use Rattle.rules.specs.Expiry.Passes.{offers, elevatorLots}
 use Rattle.numbers.proofs.Filled.{partly, partly-start, partly-next, partly-length, partly-end}

@@ -1,10 +1,7 @@
-use native.Mathlib.Omega.{arith}
-use mathlib.Core.Path.{sym, _∙_}
-use denote.Ref.{now}
+use Rattle.numbers.proofs.Words.{arith, sym, _∙_, now, needs}
 use Rattle.numbers.proofs.Ranges.{chosen-yes, chosen-no}
 use Rattle.book_laws.proofs.Good.{facts}
 use Rattle.method_passes.proofs.Laws.{offer-at}
-use borrow.Author.Needs.{needs}
 use Rattle.method_passes.proofs.offers.offer.Statement.{statement}
 use Rattle.method_passes.proofs.offers.offer.Tie as tie
 

@@ -1,9 +1,5 @@
 -- The loop's invariant: the sum is that of the first k notices.
-use borrow.Author.Needs.{needs}
-use Prim.Native.Nat.{_+_, _-_, _*_, _≤_}
-use native.Mathlib.Omega.{arith}
-use mathlib.Core.Path.{_≡_, sym, ap₂, _∙_}
-use denote.Ref.{now}
+use Rattle.numbers.proofs.Words.{needs, _+_, _-_, _*_, _≤_, arith, _≡_, sym, ap₂, _∙_, now}
 use Rattle.book_laws.proofs.Good.{facts}
 use Rattle.method_passes.proofs.Laws.{offeredSoFar, offered-none, offered-next, offered-all, offer-within}
 use Rattle.method_passes.proofs.offers.offered.Statement.{statement}

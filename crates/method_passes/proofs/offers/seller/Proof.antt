@@ -1,7 +1,5 @@
-use native.Mathlib.Omega.{arith}
-use mathlib.Core.Path.{sym, ap}
-use lib.Seq.{getD-take}
-use Rattle.rules.specs.declared.book.Notice.{Notice}
+use Rattle.numbers.proofs.Words.{arith, sym, ap, getD-take}
+use Rattle.rules.specs.declared.book.{Notice.Notice}
 use Rattle.rules.specs.Book.{blankNotice}
 use Rattle.book_laws.proofs.Good.{facts}
 use Rattle.method_passes.proofs.offers.seller.Statement.{statement}

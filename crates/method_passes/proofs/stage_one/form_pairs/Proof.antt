@@ -1,12 +1,5 @@
-use borrow.Author.Needs.{needs}
+use Rattle.numbers.proofs.Words.{needs, needs, _+_, _-_, _<_, not-suc-le-zero, arith, sym, _∙_, length, now}
 -- The loop's invariant: the pairs written so far, and those that stage one forms of what is left, are all the pairs.
-use borrow.Author.Needs.{needs}
-use Prim.Native.Nat.{_+_, _-_, _<_}
-use native.Mathlib.Nat.{not-suc-le-zero}
-use native.Mathlib.Omega.{arith}
-use mathlib.Core.Path.{sym, _∙_}
-use lib.ListN.{length}
-use denote.Ref.{now}
 use Rattle.book_laws.proofs.Good.{facts}
 use Rattle.method_passes.proofs.Laws.{Formed, none-yet, buyer-place, elevator-place, formed-next, formed-stop, formed-end}
 use Rattle.method_passes.proofs.stage_one.form_pairs.Statement.{statement}

@@ -1,8 +1,5 @@
-use mathlib.Core.Path.{sym}
-use native.Mathlib.Omega.{arith}
-use denote.Ref.{now}
+use Rattle.numbers.proofs.Words.{sym, arith, now, needs}
 use Rattle.numbers.proofs.Ranges.{getD-past}
-use borrow.Author.Needs.{needs}
 use Rattle.method_passes.proofs.stage_one.read.Statement.{statement}
 use Rattle.method_passes.proofs.stage_one.read.Tie as tie
 

@@ -1,13 +1,5 @@
-use borrow.Author.Needs.{needs}
+use Rattle.numbers.proofs.Words.{needs, needs, _-_, _≤_, _<_, arith, _≡_, sym, _∙_, map, length, take, now, entry, put}
 -- The loop's invariant: the lines that stage two forms of what is left are the rest of all lines, and the lines formed so far are put into the four lists.
-use borrow.Author.Needs.{needs}
-use Prim.Native.Nat.{_-_, _≤_, _<_}
-use native.Mathlib.Omega.{arith}
-use mathlib.Core.Path.{_≡_, sym, _∙_}
-use mathlib.Core.List.{map}
-use lib.ListN.{length, take}
-use denote.Ref.{now}
-use Rattle.numbers.specs.Lists.{entry, put}
 use Rattle.rules.specs.Expiry.Passes.{Line}
 use Rattle.book_laws.proofs.Good.{facts}
 use Rattle.method_passes.specs.Pairs.{linesIn}

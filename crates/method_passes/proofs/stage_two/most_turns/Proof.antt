@@ -1,7 +1,4 @@
-use Prim.Native.Nat.{ℕ, _+_}
-use mathlib.Core.Path.{sym, ap}
-use mathlib.Core.Bool.{Bool, cond}
-use borrow.Author.Needs.{needs}
+use Rattle.numbers.proofs.Words.{ℕ, _+_, sym, ap, Bool, cond, needs}
 use Rattle.method_passes.proofs.stage_two.most_turns.Statement.{statement}
 use Rattle.method_passes.proofs.stage_two.most_turns.Tie as tie
 

@@ -1,9 +1,5 @@
 -- With the test's answer the definition computes.
-use borrow.Author.Needs.{needs}
-use mathlib.Core.Path.{_≡_, sym, ap, ap₂, _∙_}
-use mathlib.Core.Bool.{Bool, cond}
-use lib.IntN.{natAbs}
-use mir.Facts.{toZ-ofZ}
+use Rattle.numbers.proofs.Words.{needs, _≡_, sym, ap, ap₂, _∙_, Bool, cond, natAbs, toZ-ofZ}
 use Rattle.rules.specs.Expiry.{opposed}
 use Rattle.method_steps.proofs.across.cap.Statement.{statement}
 use Rattle.method_steps.proofs.across.cap.Tie as tie

@@ -1,16 +1,5 @@
 -- The loop's invariant: the caps of the first codes are in their places.
-use borrow.Author.Needs.{needs}
-use Prim.Native.Nat.{ℕ, _-_, _<_}
-use native.Mathlib.Omega.{arith}
-use mathlib.Core.Path.{_≡_, ap, _∙_}
-use mathlib.Core.Bool.{cond}
-use lib.ListN.{length}
-use lib.IntN.{ℤ, natAbs}
-use denote.Ref.{now}
-use mir.Syntax.{w64}
-use mir.Val.{toZ, ofZ}
-use mir.Facts.{toZ-ofZ}
-use Rattle.numbers.specs.Lists.{entryℤ, listed}
+use Rattle.numbers.proofs.Words.{needs, ℕ, _-_, _<_, arith, _≡_, ap, _∙_, cond, length, ℤ, natAbs, now, w64, toZ, ofZ, toZ-ofZ, entryℤ, listed}
 use Rattle.numbers.proofs.Whole.{read-back}
 use Rattle.numbers.proofs.Filled.{Filled, filled-none, filled-length, filled-next, filled-end}
 use Rattle.rules.specs.Expiry.{opposed}

@@ -1,18 +1,7 @@
 -- The calls' `ensures`, one after the other.
-use borrow.Author.Needs.{needs}
-use Prim.Native.Nat.{ℕ}
-use mathlib.Core.Path.{_≡_, sym, ap, ap₂, _∙_}
-use mathlib.Core.Bool.{cond}
-use mathlib.Core.List.{List}
-use lib.Dec.{ltb}
-use lib.ListN.{length}
-use lib.Seq.{length-take-le}
-use lib.IntN.{ℤ, pos, natAbs}
-use denote.Ref.{now}
-use mir.Facts.{toZ-ofZ}
-use Rattle.numbers.specs.Lists.{entryℤ, listed}
+use Rattle.numbers.proofs.Words.{needs, ℕ, _≡_, sym, ap, ap₂, _∙_, cond, List, ltb, length, length-take-le, ℤ, pos, natAbs, now, toZ-ofZ, entryℤ, listed}
+use Rattle.rules.specs.declared.book.{Section.Section}
 use Rattle.numbers.proofs.Ranges.{listed-at}
-use Rattle.rules.specs.declared.book.Section.{Section}
 use Rattle.rules.specs.Book.{heldSections, positionOf}
 use Rattle.rules.specs.Expiry.{opposed, netOfCode, chosen, inOrder, taken}
 use Rattle.rules.specs.Expiry.Across.{codeCaps, givenAcross}

@@ -1,16 +1,5 @@
 -- The loop's invariant: the sum is that of the first codes, and within 256,000,000 for each.
-use Prim.Native.Nat.{ℕ, _+_, _-_, _*_, _≤_}
-use native.Mathlib.Omega.{arith}
-use native.Mathlib.Numerals.{add-one}
-use mathlib.Core.Path.{_≡_, refl, sym, ap, ap₂, _∙_}
-use mathlib.Core.List.{List}
-use lib.IntN.{ℤ, pos, natAbs, _+ℤ_}
-use denote.Ref.{now}
-use mir.Syntax.{w64}
-use mir.Val.{SFits, toZ, ofZ}
-use mir.Facts.{toZ-ofZ}
-use Rattle.numbers.specs.Lists.{entryℤ, counted, listed}
-use Rattle.numbers.specs.Sums.{gathered, totalℤ}
+use Rattle.numbers.proofs.Words.{ℕ, _+_, _-_, _*_, _≤_, arith, add-one, _≡_, refl, sym, ap, ap₂, _∙_, List, ℤ, pos, natAbs, _+ℤ_, now, w64, SFits, toZ, ofZ, toZ-ofZ, entryℤ, counted, listed, gathered, totalℤ}
 use Rattle.numbers.proofs.Sums.{wholes}
 use Rattle.numbers.proofs.Ranges.{sum-more}
 use Rattle.numbers.proofs.Whole.{sum-within, sfits-size, read-back}

@@ -1,15 +1,5 @@
 -- The calls' `ensures`, one after the other.
-use borrow.Author.Needs.{needs}
-use Prim.Native.Nat.{ℕ, _≤_}
-use native.Mathlib.Omega.{arith}
-use mathlib.Core.Path.{_≡_, sym, ap, ap₂, subst, _∙_}
-use mathlib.Core.List.{List}
-use lib.Dec.{ltb}
-use lib.ListN.{length}
-use lib.Seq.{length-take-le}
-use denote.Ref.{now}
-use Rattle.numbers.specs.Lists.{entry}
-use Rattle.numbers.specs.Sums.{total}
+use Rattle.numbers.proofs.Words.{needs, ℕ, _≤_, arith, _≡_, sym, ap, ap₂, subst, _∙_, List, ltb, length, length-take-le, now, entry, total}
 use Rattle.rules.specs.Book.{heldSections}
 use Rattle.rules.specs.Expiry.{inOrder, taken}
 use Rattle.rules.specs.Expiry.Codes.{givenInCodes}

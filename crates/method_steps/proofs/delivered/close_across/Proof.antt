@@ -1,14 +1,5 @@
 -- The calls' `ensures`, one after the other.
-use borrow.Author.Needs.{needs}
-use Prim.Native.Nat.{ℕ}
-use mathlib.Core.Path.{_≡_, refl, sym, ap, _∙_}
-use mathlib.Core.List.{List, _++_}
-use lib.ListN.{length, take, drop}
-use lib.Seq.{length-take-le}
-use lib.IntN.{ℤ}
-use denote.Ref.{now}
-use mir.Facts.{toZ-ofZ}
-use Rattle.numbers.specs.Lists.{less}
+use Rattle.numbers.proofs.Words.{needs, ℕ, _≡_, refl, sym, ap, _∙_, List, _++_, length, take, drop, length-take-le, ℤ, now, toZ-ofZ, less}
 use Rattle.rules.specs.Book.{heldSections}
 use Rattle.rules.specs.Expiry.Across.{givenAcross}
 use Rattle.book_laws.proofs.Good.{Good, facts}

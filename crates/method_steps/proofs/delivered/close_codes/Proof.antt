@@ -1,16 +1,5 @@
 -- The calls' `ensures`, one after the other.
-use borrow.Author.Needs.{needs}
-use Prim.Native.Nat.{ℕ, _≤_}
-use native.Mathlib.Omega.{arith}
-use mathlib.Core.Path.{_≡_, refl, sym, ap, subst, _∙_}
-use mathlib.Core.List.{List, _++_}
-use lib.ListN.{length, take, drop}
-use lib.Seq.{length-take-le}
-use lib.IntN.{ℤ, pos, natAbs, _+ℤ_}
-use denote.Ref.{now}
-use mir.Facts.{toZ-ofZ}
-use Rattle.numbers.specs.Lists.{entry, entryℤ, listed, less}
-use Rattle.numbers.specs.Sums.{totalℤ}
+use Rattle.numbers.proofs.Words.{needs, ℕ, _≤_, arith, _≡_, refl, sym, ap, subst, _∙_, List, _++_, length, take, drop, length-take-le, ℤ, pos, natAbs, _+ℤ_, now, toZ-ofZ, entry, entryℤ, listed, less, totalℤ}
 use Rattle.numbers.proofs.Ranges.{listed-at}
 use Rattle.rules.specs.Book.{heldSections}
 use Rattle.rules.specs.Expiry.{netOfCode}

@@ -1,11 +1,5 @@
 -- The calls' `ensures`, one after the other.
-use borrow.Author.Needs.{needs}
-use Prim.Native.Nat.{ℕ, _≤_}
-use mathlib.Core.Path.{_≡_, sym, ap₂, subst, _∙_}
-use mathlib.Core.List.{List, map}
-use lib.IntN.{ℤ, natAbs}
-use mir.Facts.{toZ-ofZ}
-use Rattle.numbers.specs.Lists.{entry, entryℤ, less}
+use Rattle.numbers.proofs.Words.{needs, ℕ, _≤_, _≡_, sym, ap₂, subst, _∙_, List, map, ℤ, natAbs, toZ-ofZ, entry, entryℤ, less}
 use Rattle.rules.specs.Book.{heldSections, filedNotices}
 use Rattle.rules.specs.Expiry
 use Rattle.rules.specs.Expiry.Failing.{failing}

@@ -1,11 +1,5 @@
 -- The calls' `ensures`, one after the other.
-use borrow.Author.Needs.{needs}
-use Prim.Native.Nat.{ℕ}
-use mathlib.Core.Path.{_≡_, sym, ap, ap₂, _∙_}
-use mathlib.Core.List.{List, _++_}
-use lib.ListN.{length, take, drop}
-use lib.Seq.{length-take-le}
-use Rattle.numbers.specs.Lists.{listed, less}
+use Rattle.numbers.proofs.Words.{needs, ℕ, _≡_, sym, ap, ap₂, _∙_, List, _++_, length, take, drop, length-take-le, listed, less}
 use Rattle.rules.specs.Book.{heldSections, filedNotices}
 use Rattle.rules.specs.Expiry.{netOfCode}
 use Rattle.rules.specs.Expiry.Failing.{failing}

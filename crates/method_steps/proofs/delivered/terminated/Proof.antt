@@ -1,10 +1,5 @@
 -- What is delivered is within the sizes, and what is left of them is terminated.
-use borrow.Author.Needs.{needs}
-use Prim.Native.Nat.{ℕ}
-use mathlib.Core.Path.{sym, ap, _∙_}
-use mathlib.Core.List.{List}
-use denote.Ref.{now}
-use Rattle.numbers.specs.Lists.{less}
+use Rattle.numbers.proofs.Words.{needs, ℕ, sym, ap, _∙_, List, now, less}
 use Rattle.rules.specs.Book.{heldSections, filedNotices}
 use Rattle.rules.specs.Expiry.Call
 use Rattle.method_steps.proofs.Laws.{within-as, delivered-within}

@@ -1,12 +1,5 @@
 -- The order that the first call leaves in the front of the local list is what the second call gives by.
-use borrow.Author.Needs.{needs}
-use Prim.Native.Nat.{ℕ, _<_}
-use mathlib.Core.Path.{_≡_, sym, ap, ap₂, subst, _∙_}
-use mathlib.Core.List.{List}
-use lib.ListN.{length, replicate, length-replicate}
-use lib.Seq.{length-take-le}
-use denote.Ref.{now}
-use Rattle.numbers.specs.Lists.{entry}
+use Rattle.numbers.proofs.Words.{needs, ℕ, _<_, _≡_, sym, ap, ap₂, subst, _∙_, List, length, replicate, length-replicate, length-take-le, now, entry}
 use Rattle.rules.specs.Book.{heldSections}
 use Rattle.rules.specs.Expiry.{taken, takenFrom}
 use Rattle.book_laws.proofs.Good.{Good, facts}

@@ -1,17 +1,6 @@
 -- The calls' `ensures`, one after the other.
-use borrow.Author.Needs.{needs}
-use Prim.Native.Nat.{ℕ, _≤_}
-use native.Mathlib.Omega.{arith}
-use mathlib.Core.Path.{_≡_, sym, ap, ap₂, subst, _∙_}
-use mathlib.Core.List.{List, map}
-use lib.Dec.{ltb}
-use lib.ListN.{length}
-use lib.Seq.{length-take-le}
-use lib.IntN.{ℤ, natAbs}
-use denote.Ref.{now}
-use Rattle.numbers.specs.Lists.{entry, entryℤ, listed}
-use Rattle.numbers.specs.Sums.{total}
-use Rattle.rules.specs.declared.book.Section.{Section}
+use Rattle.numbers.proofs.Words.{needs, ℕ, _≤_, arith, _≡_, sym, ap, ap₂, subst, _∙_, List, map, ltb, length, length-take-le, ℤ, natAbs, now, entry, entryℤ, listed, total}
+use Rattle.rules.specs.declared.book.{Section.Section}
 use Rattle.rules.specs.Book.{heldSections, positionOf}
 use Rattle.rules.specs.Expiry.{agreed, netOfCode, chosen, inOrder, taken}
 use Rattle.rules.specs.Expiry.Outside

@@ -1,14 +1,5 @@
 -- Below 0 the number is -1 - n, and its size is n + 1; else it is n, and so is its size.
-use Prim.Native.Nat.{ℕ, suc, _+_, _<_, _^_}
-use native.Mathlib.Numerals.{add-one}
-use native.Mathlib.Omega.{arith}
-use mathlib.Core.Path.{_≡_, refl, sym, ap, subst, _∙_}
-use lib.Dec.{T}
-use lib.IntN.{ℤ, pos, negsuc, natAbs, _-ℤ_}
-use lib.Signed.{mag, ltZ, nonNeg}
-use mir.Syntax.{w64}
-use mir.Val.{Fits, SFits, toZ, ofZ}
-use mir.Facts.{toZ-ofZ}
+use Rattle.numbers.proofs.Words.{ℕ, suc, _+_, _<_, _^_, add-one, arith, _≡_, refl, sym, ap, subst, _∙_, T, ℤ, pos, negsuc, natAbs, _-ℤ_, mag, ltZ, nonNeg, w64, Fits, SFits, toZ, ofZ, toZ-ofZ}
 use Rattle.numbers.proofs.Whole.{ext, difference, negative, positive, read-back}
 use Rattle.value.proofs.signed.size.Statement.{statement}
 use Rattle.value.proofs.signed.size.Tie as tie

@@ -1,9 +1,4 @@
-use mathlib.Core.Path.{ap, _∙_}
-use lib.IntN.{natAbs}
-use mir.Facts.{toZ-ofZ}
-use Prim.Native.Nat.{ℕ}
-use lib.Dec.{leb}
-use borrow.Author.Needs.{needs}
+use Rattle.numbers.proofs.Words.{ap, _∙_, natAbs, toZ-ofZ, ℕ, leb, needs}
 use Rattle.value.proofs.signed.within.Statement.{statement}
 use Rattle.value.proofs.signed.within.Tie as tie
 
