@@ -2,8 +2,8 @@
 use Rattle.numbers.proofs.Words.{ℕ, _≤_, _<_, _%_, arith, _≡_, refl, Bool, true, false, not, _||_, List, leb, ltb, eqb, length, ℤ, pos, negℤ, natAbs, _+ℤ_, leb-true, leb-false, ltb-false, eqb-true, eqb-false, not-false, between, within, _and_, every}
 use Rattle.rules.specs.declared.book.{Book.Book}
 use Rattle.numbers.proofs.Tests.{both, or-left, or-right}
-use Rattle.rules.specs.Book.{good, lotGood, stepsGood, factorGood, codeGood, byteGood, sectionAt, positionOf, heldSections, filedNotices}
-use Rattle.rules.specs.Calls.{first, unknown, openingNumber, sectionNumber, codeHeld, tradeNumber, partyRefusals, sizeRefusals, roomRefusals, passes, sessionNumber, conditionNumber, noticeNumber, noticeFiled}
+use Rattle.rules.specs.Book.{good, lotGood, stepsGood, factorGood, sectionCodeGood, byteGood, sectionAt, positionOf, heldSections, filedNotices}
+use Rattle.rules.specs.Calls.{first, unknown, openingNumber, sectionNumber, sectionCodeHeld, tradeNumber, partyRefusals, sizeRefusals, roomRefusals, exceeds, sessionNumber, conditionNumber, noticeNumber, noticeFiled}
 use Rattle.book_laws.proofs.Answers.{first-none, first-none-append, numbered}
 use Rattle.book_laws.proofs.Good.{Between, Good, facts, between-facts}
 
@@ -19,8 +19,8 @@ pub record NewSection (b : Book) (number : ℕ) (code : List ℕ) : Type 0 where
   pub book : Good b
   pub running : b .expired ≡ false
   pub settlement : number ≤ 63
-  pub allowed : codeGood code ≡ true
-  pub fresh : codeHeld code (heldSections b) ≡ false
+  pub allowed : sectionCodeGood code ≡ true
+  pub fresh : sectionCodeHeld code (heldSections b) ≡ false
   pub room : b .held < 128
 
 pub section : (b : Book) (number : ℕ) (code : List ℕ) → sectionNumber b number code ≡ 0 → NewSection b number code
@@ -93,8 +93,8 @@ room b buyer seller lots e =
     let trades = first-none _ _ (omega arith) (limits .1) in
     let within-limits = limits .0 in
     record {
-      buyer-within = leb-true _ _ (not-false _ (or-left (passes (sectionAt b buyer) (pos lots)) (passes (sectionAt b seller) (negℤ (pos lots))) within-limits));
-      seller-within = leb-true _ _ (not-false _ (or-right (passes (sectionAt b buyer) (pos lots)) (passes (sectionAt b seller) (negℤ (pos lots))) within-limits));
+      buyer-within = leb-true _ _ (not-false _ (or-left (exceeds (sectionAt b buyer) (pos lots)) (exceeds (sectionAt b seller) (negℤ (pos lots))) within-limits));
+      seller-within = leb-true _ _ (not-false _ (or-right (exceeds (sectionAt b buyer) (pos lots)) (exceeds (sectionAt b seller) (negℤ (pos lots))) within-limits));
       trades = leb-false _ _ (trades .0);
     }
 

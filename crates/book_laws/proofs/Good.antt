@@ -31,7 +31,7 @@ pub section-facts : (trades : ℕ) (s : Section) → Book.sectionGood trades s �
 unfolding Book.sectionGood
 section-facts trades s e =
     let settlement = both (leb (s .settlement) 63) _ e in
-    let code = both (Book.codeGood (s .code)) _ (settlement .1) in
+    let code = both (Book.sectionCodeGood (s .code)) _ (settlement .1) in
     let bytes = both (eqb (length (s .code)) 7) (every Book.byteGood (s .code)) (code .0) in
     let rest = both (within (Book.positionOf s) 1_000_000) (within (Book.basisOf s) (Book.basisMost trades)) (code .1) in
     record {
@@ -60,7 +60,7 @@ pub record Good (b : Book) : Type 0 where
   pub last : Book.lastGood (b .last) (b .price) ≡ true
   pub trades : b .trades ≤ 2_000
   pub sections : every (Book.sectionGood (b .trades)) (Book.heldSections b) ≡ true
-  pub codes-apart : apart Book.codesAlike (Book.heldSections b) ≡ true
+  pub codes-apart : apart Book.sectionCodesAlike (Book.heldSections b) ≡ true
   pub positions : totalℤ (map Book.positionOf (Book.heldSections b)) ≡ pos 0
   pub bases : totalℤ (map Book.basisOf (Book.heldSections b)) ≡ pos 0
   pub notices : every (Book.noticeGood (b .held)) (Book.filedNotices b) ≡ true
@@ -88,7 +88,7 @@ facts b e =
     let notice-places = both (eqb (length (b .notices)) 256) _ (section-places .1) in
     let counts = both (leb (b .held) 128) (leb (b .filed) 256) (notice-places .1) in
     let within-limits = both (every (Book.sectionGood (b .trades)) (Book.heldSections b)) _ (sections .0) in
-    let codes-apart = both (apart Book.codesAlike (Book.heldSections b)) _ (within-limits .1) in
+    let codes-apart = both (apart Book.sectionCodesAlike (Book.heldSections b)) _ (within-limits .1) in
     let sums = both (Book.sumsToZero (map Book.positionOf (Book.heldSections b))) (Book.sumsToZero (map Book.basisOf (Book.heldSections b))) (codes-apart .1) in
     let filed = both (every (Book.noticeGood (b .held)) (Book.filedNotices b)) _ (notices .0) in
     record {

@@ -13,8 +13,8 @@ use rules::limits::BAD_TRADE_LOTS;
 use rules::limits::BAD_TRADE_PRICE;
 use rules::limits::BUYER_IS_SELLER;
 use rules::limits::EXPIRED;
+use rules::limits::POSITION_EXCEEDED;
 use rules::limits::POSITION_MOST;
-use rules::limits::POSITION_PASSED;
 use rules::limits::PRICE_MOST;
 use rules::limits::TRADE_LOTS_MOST;
 use rules::limits::TRADES_FULL;
@@ -25,9 +25,9 @@ use rules::units::Lots;
 use value::signed;
 
 // Whether a position, so many lots on, would pass its limit.
-fn passes(s: Section, lots: i64) -> bool
+fn exceeds(s: Section, lots: i64) -> bool
     requires { ⌜ (natAbs (positionOf s) ≤ 1_000_000) × (natAbs lots ≤ 10_000) ⌝ }
-    ensures { λ r. ⌜ r ≡ Rules.passes s lots ⌝ }
+    ensures { λ r. ⌜ r ≡ Rules.exceeds s lots ⌝ }
 {
     let position = s.position.0;
     let next = signed::sum(position, lots);
@@ -78,12 +78,12 @@ fn room_refusal(b: Book, buyer: u8, seller: u8, lots: u32) -> u8
     ensures { λ n. ⌜ n ≡ first (Rules.roomRefusals b buyer seller lots) ⌝ }
 {
     let s = b.sections[buyer as usize];
-    if passes(s, lots as i64) {
-        return POSITION_PASSED;
+    if exceeds(s, lots as i64) {
+        return POSITION_EXCEEDED;
     }
     let t = b.sections[seller as usize];
-    if passes(t, 0 - (lots as i64)) {
-        return POSITION_PASSED;
+    if exceeds(t, 0 - (lots as i64)) {
+        return POSITION_EXCEEDED;
     }
     if TRADES_MOST <= b.trades {
         return TRADES_FULL;

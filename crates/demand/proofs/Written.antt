@@ -9,8 +9,8 @@ use Rattle.rules.specs.Book.{heldSections, filedNotices, noticeAt, sectionAt, s
 use Rattle.rules.specs.Calls.{first, handedOut, count}
 use Rattle.rules.specs.Expiry.{size}
 use Rattle.rules.specs.Expiry.Failing.{failing}
-use Rattle.rules.specs.Expiry.Codes.{gaps, givenInCodes}
-use Rattle.rules.specs.Expiry.Across.{leftOpen, givenAcross}
+use Rattle.rules.specs.Expiry.Codes.{dOfCodes, givenInCodes}
+use Rattle.rules.specs.Expiry.Across.{dOverall, givenAcross}
 use Rattle.rules.specs.Expiry.Passes.{Line}
 use Rattle.rules.specs.Expiry.Call.{Lists, delivered, terminated, lines, expiryRefusals, expiryAnswer, expiryWritten, expiryLists}
 use Rattle.rules.specs.History.{Register, lotsWhere, registerLots, drawnLots}
@@ -26,10 +26,10 @@ delivered-left ss ns =
     let sizes = map size ss in
     let failed = failing ss ns in
     let sound = less sizes failed in
-    let gap = gaps ss failed in
+    let gap = dOfCodes ss failed in
     let given = givenInCodes ss gap sound in
     let left = less sound given in
-    left-less sizes left (givenAcross ss (leftOpen ss gap given) left) (left-less sizes sound given (left-less sizes sizes failed (left-all sizes)))
+    left-less sizes left (givenAcross ss (dOverall ss gap given) left) (left-less sizes sound given (left-less sizes sizes failed (left-all sizes)))
 
 terminated-left : (ss : List Section) (kept : List ℕ) → Left (map size ss) (terminated ss kept)
 unfolding terminated

@@ -1,6 +1,6 @@
 // Section codes.
 ghost use Rattle.rules.specs.Words.{_≡_, same};
-ghost use Rattle.rules.specs.Book.{byteGood, codeGood};
+ghost use Rattle.rules.specs.Book.{byteGood, sectionCodeGood};
 
 fn byte_good(byte: u8) -> bool
     ensures { λ r. ⌜ r ≡ byteGood byte ⌝ }
@@ -19,7 +19,7 @@ fn byte_good(byte: u8) -> bool
 
 // Whether a section code has seven bytes, as its type says, and each of them is allowed.
 pub fn code_good(code: [u8; 7]) -> bool
-    ensures { λ r. ⌜ r ≡ codeGood code ⌝ }
+    ensures { λ r. ⌜ r ≡ sectionCodeGood code ⌝ }
 {
     let mut i = 0;
     while i < 7 {

@@ -1,7 +1,7 @@
 // The sections held, and the places beyond them.
 ghost use Rattle.rules.specs.Words.{_≡_, true, map, _≤_, drop, _and_, every, apart};
-ghost use Rattle.rules.specs.Book.{heldSections, positionOf, basisOf, codesAlike, sumsToZero, sectionGood, sectionBlank, sectionsGood};
-ghost use Rattle.rules.specs.Calls.{codeHeld};
+ghost use Rattle.rules.specs.Book.{heldSections, positionOf, basisOf, sectionCodesAlike, sumsToZero, sectionGood, sectionBlank, sectionsGood};
+ghost use Rattle.rules.specs.Calls.{sectionCodeHeld};
 use crate::codes;
 use rules::book::Book;
 use rules::book::Section;
@@ -61,7 +61,7 @@ fn section_blank(s: Section) -> bool
 // Whether a section held, from a number on, has the code.
 pub fn code_held(b: Book, code: [u8; 7], from: usize) -> bool
     requires { ⌜ b .held ≤ 128 ⌝ }
-    ensures { λ r. ⌜ r ≡ codeHeld code (drop from (heldSections b)) ⌝ }
+    ensures { λ r. ⌜ r ≡ sectionCodeHeld code (drop from (heldSections b)) ⌝ }
 {
     let held = b.held;
     let mut i = from;
@@ -94,7 +94,7 @@ fn sections_within(b: Book) -> bool
 
 fn codes_apart(b: Book) -> bool
     requires { ⌜ b .held ≤ 128 ⌝ }
-    ensures { λ r. ⌜ r ≡ apart codesAlike (heldSections b) ⌝ }
+    ensures { λ r. ⌜ r ≡ apart sectionCodesAlike (heldSections b) ⌝ }
 {
     let held = b.held;
     let mut i = 0;

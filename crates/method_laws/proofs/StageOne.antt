@@ -6,7 +6,7 @@ use Rattle.numbers.proofs.Counts.{live, live-empty, live-some, live-off}
 use Rattle.numbers.proofs.Tests.{together, below-or-not}
 use Rattle.numbers.proofs.Ranges.{total-entries}
 use Rattle.numbers.proofs.Orders.{largest-none}
-use Rattle.rules.specs.Expiry.{lowerCode}
+use Rattle.rules.specs.Expiry.{lowerSectionCode}
 use Rattle.rules.specs.Expiry.Passes.{Pair, stageOne}
 
 -- the lots of the pairs that pass a test
@@ -77,7 +77,7 @@ paired ss zero buyers elevators even enough =
 paired ss (suc turns) buyers elevators even enough = go (eqb amount 0) refl (paired ss turns _ _)
   where
     b : ℕ
-    b = largest (lowerCode ss) buyers
+    b = largest (lowerSectionCode ss) buyers
 
     e : ℕ
     e = largest (λ (i j : ℕ). ltb i j) elevators
@@ -103,7 +103,7 @@ paired ss (suc turns) buyers elevators even enough = go (eqb amount 0) refl (pai
     nothing zero-amount =
         ⊎-elim
         (λ (h : entry buyers b ≡ amount).
-        let none = largest-none (lowerCode ss) buyers (h ∙ zero-amount) in
+        let none = largest-none (lowerSectionCode ss) buyers (h ∙ zero-amount) in
         paired-none buyers elevators none (λ c. omega (arith, even, none-total buyers (λ i l. none i), entry-part elevators c)))
         (λ (h : entry elevators e ≡ amount).
         let none = largest-none (λ (i j : ℕ). ltb i j) elevators (h ∙ zero-amount) in

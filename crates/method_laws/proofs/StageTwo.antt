@@ -9,7 +9,7 @@ use Rattle.numbers.proofs.Sums.{naturals, total-read-set}
 use Rattle.numbers.proofs.Tests.{below-or-not}
 use Rattle.numbers.proofs.Under.{under-none, under-sum, above-read}
 use Rattle.rules.specs.Book.{noticeOf}
-use Rattle.rules.specs.Expiry.{lowerCode}
+use Rattle.rules.specs.Expiry.{lowerSectionCode}
 use Rattle.rules.specs.Expiry.Passes.{Pair, Line, pairOf, offers, earlierPair, stageTwo}
 use Rattle.method_laws.proofs.StageOne.{pairLots}
 
@@ -222,7 +222,7 @@ module _ (ss : List Section) (ns : List Notice) (ps : List Pair) (drawn : List �
   takenAt = pairOf ps takenPair .elevator
 
   abbrev takenNotice : ℕ
-  takenNotice = largest (λ (i j : ℕ). lowerCode ss (noticeOf ns i .section) (noticeOf ns j .section)) (offers ns drawn takenAt)
+  takenNotice = largest (λ (i j : ℕ). lowerSectionCode ss (noticeOf ns i .section) (noticeOf ns j .section)) (offers ns drawn takenAt)
 
   abbrev taken : ℕ
   taken = min (pairOf ps takenPair .lots) (entry (offers ns drawn takenAt) takenNotice)
@@ -280,7 +280,7 @@ module _ (ss : List Section) (ns : List Notice) (ps : List Pair) (drawn : List �
           total-part f noPair ps takenPair (pair-held h),
           chosen-yes takenAt takenAt (pairOf ps takenPair .lots) 0 refl,
           even takenAt,
-          none-total at (λ i b. largest-none (λ (i j : ℕ). lowerCode ss (noticeOf ns i .section) (noticeOf ns j .section)) at (omega (arith, l)) i),
+          none-total at (λ i b. largest-none (λ (i j : ℕ). lowerSectionCode ss (noticeOf ns i .section) (noticeOf ns j .section)) at (omega (arith, l)) i),
         )))
         (below-or-not 0 (entry at takenNotice))
 

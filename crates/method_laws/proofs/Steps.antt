@@ -9,8 +9,8 @@ use Rattle.rules.specs.Book.{positionOf, sectionOf, sectionOfNoughts}
 use Rattle.rules.specs.Expiry.{isLong, isShort, opposed, onSideOf, netOfCode, chosen}
 use Rattle.rules.specs.Expiry
 use Rattle.rules.specs.Expiry.Failing.{fails, failing}
-use Rattle.rules.specs.Expiry.Codes.{gaps, givenInCodes}
-use Rattle.rules.specs.Expiry.Across.{leftOpen, codeCaps, givenAcross}
+use Rattle.rules.specs.Expiry.Codes.{dOfCodes, givenInCodes}
+use Rattle.rules.specs.Expiry.Across.{dOverall, codeCaps, givenAcross}
 use Rattle.rules.specs.Expiry.Call.{delivered}
 use Rattle.method_laws.proofs.Greedy.{Given, given}
 use Rattle.method_laws.proofs.Across.{closed-even}
@@ -67,7 +67,7 @@ module _ (ss : List Section) (ns : List Notice) (codes : (i : ℕ) → i < lengt
   sound = less sizes failed
 
   abbrev gap : List ℤ
-  gap = gaps ss failed
+  gap = dOfCodes ss failed
 
   abbrev inCodes : List ℕ
   inCodes = givenInCodes ss gap sound
@@ -76,7 +76,7 @@ module _ (ss : List Section) (ns : List Notice) (codes : (i : ℕ) → i < lengt
   left = less sound inCodes
 
   abbrev open′ : ℤ
-  open′ = leftOpen ss gap inCodes
+  open′ = dOverall ss gap inCodes
 
   abbrev across : List ℕ
   across = givenAcross ss open′ left
@@ -126,7 +126,7 @@ module _ (ss : List Section) (ns : List Notice) (codes : (i : ℕ) → i < lengt
 
   -- what is left open, by its two sides
   open-sides : open′ ≡ pos (allOf ss isLong failed + allOf ss isLong inCodes) -ℤ pos (allOf ss isShort failed + allOf ss isShort inCodes)
-  unfolding leftOpen gaps Within
+  unfolding dOverall dOfCodes Within
   open-sides =
       sum-same _+ℤ_ (pos 0) wholes 64 _ _ (λ c h. ap₂ _+ℤ_ (listed-at 64 (netOfCode ss failed) c (pos 0) h ∙ net-sides ss failed within-failed c) (net-sides ss inCodes within-in-codes c) ∙ paired-difference (sideOf ss isLong c failed) (sideOf ss isShort c failed) (sideOf ss isLong c inCodes) (sideOf ss isShort c inCodes))
       ∙ sum-difference 64 _ _

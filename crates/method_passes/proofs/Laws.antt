@@ -6,7 +6,7 @@ use Rattle.numbers.proofs.Ranges.{counted-more, getD-past, listed-length, liste
 use Rattle.numbers.proofs.Sums.{naturals}
 use Rattle.numbers.proofs.Tests.{and-left, below-or-not, same-or-not}
 use Rattle.rules.specs.Book.{good, heldSections, filedNotices, noticeOf, noticeAt, blankNotice, noticeGood}
-use Rattle.rules.specs.Expiry.{lowerCode}
+use Rattle.rules.specs.Expiry.{lowerSectionCode}
 use Rattle.rules.specs.Expiry.Passes.{Pair, offers, pairOf, stageOne}
 use Rattle.method_passes.specs.Pairs.{pairsIn}
 use Rattle.book_laws.proofs.Good.{facts}
@@ -140,7 +140,7 @@ module _ (buyers elevators lots : List ℕ) (count : ℕ) (h : count < length bu
 -- stage one, a turn
 module _ (ss : List Section) (bs es : List ℕ) where
   abbrev most : ℕ
-  most = largest (lowerCode ss) bs
+  most = largest (lowerSectionCode ss) bs
 
   abbrev most′ : ℕ
   most′ = largest (λ (i j : ℕ). ltb i j) es
@@ -205,7 +205,7 @@ module _ (b : Book) (turns : ℕ) (bs₀ es₀ : List ℕ) where
         ∙ f .8
 
     module _ (buyer elevator has stands amount : ℕ) (below : count < turns) (fit : turns ≤ 160)
-        (eb : buyer ≡ largest (lowerCode (heldSections b)) bs)
+        (eb : buyer ≡ largest (lowerSectionCode (heldSections b)) bs)
         (ee : elevator ≡ largest (λ (i j : ℕ). ltb i j) es)
         (eh : has ≡ entry bs buyer) (et : stands ≡ entry es elevator) (ea : amount ≡ min has stands) where
       rest : suc (turns - (count + 1)) ≡ turns - count

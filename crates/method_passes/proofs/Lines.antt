@@ -5,7 +5,7 @@ use Rattle.numbers.proofs.Ranges.{getD-past, listed-entries, listed-length, lis
 use Rattle.numbers.proofs.Orders.{largest-place}
 use Rattle.numbers.proofs.Tests.{or-cases, or-left, or-right, same-or-not}
 use Rattle.rules.specs.Book.{good, heldSections, filedNotices, noticeOf}
-use Rattle.rules.specs.Expiry.{lowerCode}
+use Rattle.rules.specs.Expiry.{lowerSectionCode}
 use Rattle.rules.specs.Expiry.Passes.{Pair, Line, offers, pairOf, earlierPair, stageTwo}
 use Rattle.method_passes.specs.Pairs.{pairsIn, linesIn}
 use Rattle.method_passes.proofs.Laws.{listed-same, offers-length, offer-within, lots-length, pair-at}
@@ -58,7 +58,7 @@ module _ (ss : List Section) (ns : List Notice) (ps : List Pair) (drawn : List �
   pairTaken = pairOf ps pairPlace
 
   abbrev pub noticePlace : ℕ
-  noticePlace = largest (λ (i j : ℕ). lowerCode ss (noticeOf ns i .section) (noticeOf ns j .section)) (offers ns drawn (pairTaken .elevator))
+  noticePlace = largest (λ (i j : ℕ). lowerSectionCode ss (noticeOf ns i .section) (noticeOf ns j .section)) (offers ns drawn (pairTaken .elevator))
 
   abbrev pub lineLots : ℕ
   lineLots = min (pairTaken .lots) (entry (offers ns drawn (pairTaken .elevator)) noticePlace)
@@ -90,7 +90,7 @@ nothing-lined ss ns ps drawn (suc n) e = line-turn ss ns ps drawn n true (eq-eqb
 module _ (ss : List Section) (ns : List Notice) (ps : List Pair) (drawn : List ℕ) (n p k amount seller : ℕ) (q : Pair)
     (ep : p ≡ pairPlace ss ns ps drawn)
     (eq : q ≡ pairOf ps p)
-    (ek : k ≡ largest (λ (i j : ℕ). lowerCode ss (noticeOf ns i .section) (noticeOf ns j .section)) (offers ns drawn (q .elevator)))
+    (ek : k ≡ largest (λ (i j : ℕ). lowerSectionCode ss (noticeOf ns i .section) (noticeOf ns j .section)) (offers ns drawn (q .elevator)))
     (ea : amount ≡ min (q .lots) (entry (offers ns drawn (q .elevator)) k)) where
   line-amount : amount ≡ lineLots ss ns ps drawn
   line-amount = rw (ea, ek, eq, ep)
@@ -211,11 +211,11 @@ module _ (b : Book) (h : good b ≡ true) (count : ℕ) (takers stores amounts�
           omega (arith, ep, lots-length takers stores amounts count, largest-place (λ (i j : ℕ). earlierPair (heldSections b) (pairOf ps i) (pairOf ps j)) (map (λ (q : Pair). q .lots) ps) (omega (arith, some .0, lots-length takers stores amounts count)))
 
       module _ (k : ℕ)
-          (ek : k ≡ largest (λ (i j : ℕ). lowerCode (heldSections b) (noticeOf (filedNotices b) i .section) (noticeOf (filedNotices b) j .section)) (offers (filedNotices b) drawn (entry stores p))) where
+          (ek : k ≡ largest (λ (i j : ℕ). lowerSectionCode (heldSections b) (noticeOf (filedNotices b) i .section) (noticeOf (filedNotices b) j .section)) (offers (filedNotices b) drawn (entry stores p))) where
         pub notice-there : k < b .filed
         notice-there =
             let long = offers-length b h drawn (entry stores p) in
-            omega (arith, ek, long, largest-place (λ (i j : ℕ). lowerCode (heldSections b) (noticeOf (filedNotices b) i .section) (noticeOf (filedNotices b) j .section)) (offers (filedNotices b) drawn (entry stores p)) (omega (arith, some .1, long)))
+            omega (arith, ek, long, largest-place (λ (i j : ℕ). lowerSectionCode (heldSections b) (noticeOf (filedNotices b) i .section) (noticeOf (filedNotices b) j .section)) (offers (filedNotices b) drawn (entry stores p)) (omega (arith, some .1, long)))
 
         module _ (offered amount : ℕ) (eo : offered ≡ entry (offers (filedNotices b) drawn (entry stores p)) k) (ea : amount ≡ min (entry amounts p) offered) where
           pub amount-within : amount ≤ entry drawn k

@@ -21,7 +21,7 @@ fn leader(i: usize, own: u64, best: usize, most: u64, earlier: bool) -> usize
 // The buyer section with most lots; ties: lower section code.
 pub fn buyer(b: Book, lots: &[u64]) -> usize
     requires { ⌜ (good b ≡ true) × (length (now lots) ≡ b .held) ⌝ }
-    ensures { λ r. ⌜ r ≡ largest (Expiry.lowerCode (heldSections b)) (now (lots .entry)) ⌝ }
+    ensures { λ r. ⌜ r ≡ largest (Expiry.lowerSectionCode (heldSections b)) (now (lots .entry)) ⌝ }
 {
     let all = lots.len();
     let mut best = 0;
@@ -56,7 +56,7 @@ pub fn elevator(lots: &[u64]) -> usize
 // Whether the seller of notice i has a lower section code than that of notice j.
 fn earlier_notice(b: Book, i: usize, j: usize) -> bool
     requires { ⌜ (good b ≡ true) × (i < b .filed) × (j < b .filed) ⌝ }
-    ensures { λ r. ⌜ r ≡ Expiry.lowerCode (heldSections b) (noticeOf (filedNotices b) i .section) (noticeOf (filedNotices b) j .section) ⌝ }
+    ensures { λ r. ⌜ r ≡ Expiry.lowerSectionCode (heldSections b) (noticeOf (filedNotices b) i .section) (noticeOf (filedNotices b) j .section) ⌝ }
 {
     let n = b.notices[i];
     let m = b.notices[j];
@@ -68,7 +68,7 @@ fn earlier_notice(b: Book, i: usize, j: usize) -> bool
 // The notice with most lots at an elevator; ties: lower seller section code.
 pub fn notice(b: Book, drawn: &[u64], elevator: usize) -> usize
     requires { ⌜ (good b ≡ true) × (length (now drawn) ≡ b .filed) ⌝ }
-    ensures { λ r. ⌜ r ≡ largest (λ (i j : ℕ). Expiry.lowerCode (heldSections b) (noticeOf (filedNotices b) i .section) (noticeOf (filedNotices b) j .section)) (Passes.offers (filedNotices b) (now (drawn .entry)) elevator) ⌝ }
+    ensures { λ r. ⌜ r ≡ largest (λ (i j : ℕ). Expiry.lowerSectionCode (heldSections b) (noticeOf (filedNotices b) i .section) (noticeOf (filedNotices b) j .section)) (Passes.offers (filedNotices b) (now (drawn .entry)) elevator) ⌝ }
 {
     let all = b.filed;
     let mut best = 0;

@@ -9,8 +9,8 @@ use Rattle.rules.specs.Book.{heldSections, filedNotices, positionOf, sectionOf,
 use Rattle.rules.specs.Expiry
 use Rattle.rules.specs.Expiry.{opposed, chosen, earlier, inOrder, netOfCode}
 use Rattle.rules.specs.Expiry.Failing.{fails, failing}
-use Rattle.rules.specs.Expiry.Codes.{gaps, givenInCodes}
-use Rattle.rules.specs.Expiry.Across.{leftOpen, codeCaps, givenAcross}
+use Rattle.rules.specs.Expiry.Codes.{dOfCodes, givenInCodes}
+use Rattle.rules.specs.Expiry.Across.{dOverall, codeCaps, givenAcross}
 use Rattle.rules.specs.Expiry.Call.{delivered}
 use Rattle.method_laws.proofs.Greedy.{given}
 use Rattle.method_laws.proofs.Sides.{chosen-within}
@@ -127,10 +127,10 @@ module _ (ss : List Section) where
   delivered-within ns i =
       let failed = failing ss ns in
       let sound = less (map Expiry.size ss) failed in
-      let gap = gaps ss failed in
+      let gap = dOfCodes ss failed in
       let inCodes = givenInCodes ss gap sound in
       let left = less sound inCodes in
-      omega (arith, less-at (map Expiry.size ss) failed i, less-at sound inCodes i, less-at left (givenAcross ss (leftOpen ss gap inCodes) left) i)
+      omega (arith, less-at (map Expiry.size ss) failed i, less-at sound inCodes i, less-at left (givenAcross ss (dOverall ss gap inCodes) left) i)
 
 -- the positions of a good book are small
 pub positions-small : (b : Book) → Good b → (i : ℕ) → entry (map Expiry.size (heldSections b)) i ≤ 1_000_000

@@ -17,7 +17,7 @@ use rules::book::Book;
 fn sound(b: Book, kept: &mut [u64], gaps: &mut [i64])
     requires { ⌜ (good b ≡ true) × (length (now kept) ≡ b .held) × (length (now gaps) ≡ 64) ⌝ }
     ensures { λ _. ⌜ now (kept .exit) ≡ less (map Expiry.size (heldSections b)) (Failing.failing (heldSections b) (filedNotices b)) ⌝ }
-    ensures { λ _. ⌜ now (gaps .exit) ≡ Codes.gaps (heldSections b) (Failing.failing (heldSections b) (filedNotices b)) ⌝ }
+    ensures { λ _. ⌜ now (gaps .exit) ≡ Codes.dOfCodes (heldSections b) (Failing.failing (heldSections b) (filedNotices b)) ⌝ }
 {
     let held = b.held;
     let mut failed = [0; 128];
@@ -32,7 +32,7 @@ fn close_codes(b: Book, gaps: &[i64], kept: &mut [u64]) -> i64
     requires { ⌜ (good b ≡ true) × (length (now gaps) ≡ 64) × (length (now kept) ≡ b .held) ⌝ }
     requires { ⌜ ((c : ℕ) → natAbs (entryℤ (now gaps) c) ≤ 128_000_000) × ((i : ℕ) → entry (now kept) i ≤ 1_000_000) ⌝ }
     ensures { λ _. ⌜ now (kept .exit) ≡ less (now (kept .entry)) (Codes.givenInCodes (heldSections b) (now (gaps .entry)) (now (kept .entry))) ⌝ }
-    ensures { λ r. ⌜ r ≡ Across.leftOpen (heldSections b) (now (gaps .entry)) (Codes.givenInCodes (heldSections b) (now (gaps .entry)) (now (kept .entry))) ⌝ }
+    ensures { λ r. ⌜ r ≡ Across.dOverall (heldSections b) (now (gaps .entry)) (Codes.givenInCodes (heldSections b) (now (gaps .entry)) (now (kept .entry))) ⌝ }
 {
     let held = b.held;
     let mut given = [0; 128];

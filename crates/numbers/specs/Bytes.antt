@@ -16,3 +16,8 @@ unfoldable pub before : List ℕ → List ℕ → Bool
 before [] ys = false
 before (x ∷ xs) [] = false
 before (x ∷ xs) (y ∷ ys) = ltb x y || eqb x y && before xs ys
+
+-- every definition above, unfolded at once
+unfoldable pub computed : Unit {0}
+unfolding same before
+computed = tt

@@ -80,3 +80,8 @@ largestFrom earlier all best i (x ∷ xs) =
 
 unfoldable pub largest : (ℕ → ℕ → Bool) → List ℕ → ℕ
 largest earlier xs = largestFrom earlier xs 0 0 xs
+
+-- every definition above, unfolded at once
+unfoldable pub computed : Unit {0}
+unfolding every some apart Every counted put placed ordered largestFrom largest
+computed = tt

@@ -17,3 +17,8 @@ numberOf (b ∷ bs) = b + 256 * numberOf bs
 unfoldable pub allZero : List ℕ → Bool
 allZero [] = true
 allZero (b ∷ bs) = eqb b 0 && allZero bs
+
+-- every definition above, unfolded at once
+unfoldable pub computed : Unit {0}
+unfolding bytesOf numberOf allZero
+computed = tt

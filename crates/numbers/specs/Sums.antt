@@ -19,3 +19,8 @@ totalℤ = gathered _+ℤ_ (pos 0)
 -- how many of the numbers below n pass a test
 unfoldable pub many : ℕ → (ℕ → Bool) → ℕ
 many n test = total (listed n (λ (i : ℕ). cond (test i) 1 0))
+
+-- every definition above, unfolded at once
+unfoldable pub computed : Unit {0}
+unfolding gathered many
+computed = tt

@@ -26,3 +26,8 @@ decimal n = digitsFrom 20 n []
 unfoldable pub signedDecimal : ℤ → List ℕ
 signedDecimal (pos n) = decimal n
 signedDecimal (negsuc n) = 45 ∷ decimal (n + 1)
+
+-- every definition above, unfolded at once
+unfoldable pub computed : Unit {0}
+unfolding bytes digitsFrom decimal signedDecimal
+computed = tt

@@ -5,7 +5,7 @@ use Rattle.numbers.proofs.Tests.{both, together}
 use Rattle.numbers.proofs.Bytes.{same-sym}
 use Rattle.numbers.proofs.Changed.{every-append, every-drop, every-weaker, apart-more, take-more, drop-more}
 use Rattle.numbers.proofs.Sums.{total-more}
-use Rattle.rules.specs.Book.{good, positionOf, basisOf, sectionGood, basisMost, sectionBlank, noticeGood, codesAlike, heldSections, filedNotices}
+use Rattle.rules.specs.Book.{good, positionOf, basisOf, sectionGood, basisMost, sectionBlank, noticeGood, sectionCodesAlike, heldSections, filedNotices}
 use Rattle.rules.specs.Calls.{sectionNumber, newSection, withSection}
 use Rattle.book_laws.proofs.Accepted.{NewSection, section}
 use Rattle.book_laws.proofs.Good.{Good, test}
@@ -32,7 +32,7 @@ module _ (b : Book) (book : Good b) (s : Section) (room : b .held < 128) where
   unfolding withSection
   more-held = take-more (b .sections) (b .held) s place
 
-  with-good : sectionGood (b .trades) s ≡ true → some (codesAlike s) (heldSections b) ≡ false → positionOf s ≡ pos 0 → basisOf s ≡ pos 0 → Good (withSection b s)
+  with-good : sectionGood (b .trades) s ≡ true → some (sectionCodesAlike s) (heldSections b) ≡ false → positionOf s ≡ pos 0 → basisOf s ≡ pos 0 → Good (withSection b s)
   unfolding withSection every
   with-good sound fresh position basis =
       let held = heldSections b in
@@ -48,7 +48,7 @@ module _ (b : Book) (book : Good b) (s : Section) (room : b .held < 128) where
         last = book .last;
         trades = book .trades;
         sections = ap (every (sectionGood (b .trades))) more-held ∙ every-append (sectionGood (b .trades)) held (s ∷ []) (book .sections) (together sound refl);
-        codes-apart = ap (apart codesAlike) more-held ∙ apart-more codesAlike (λ (t u : Section). same-sym (t .code) (u .code)) s held (book .codes-apart) fresh;
+        codes-apart = ap (apart sectionCodesAlike) more-held ∙ apart-more sectionCodesAlike (λ (t u : Section). same-sym (t .code) (u .code)) s held (book .codes-apart) fresh;
         positions = ap (λ (xs : List Section). totalℤ (map positionOf xs)) more-held ∙ total-more positionOf held s position ∙ book .positions;
         bases = ap (λ (xs : List Section). totalℤ (map basisOf xs)) more-held ∙ total-more basisOf held s basis ∙ book .bases;
         notices = every-weaker (noticeGood (b .held)) (noticeGood (b .held + 1)) (later (b .held)) (filedNotices b) (book .notices);

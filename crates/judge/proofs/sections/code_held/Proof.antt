@@ -3,12 +3,12 @@ use Rattle.rules.specs.declared.book.{Section.Section}
 use Rattle.numbers.proofs.Lists.{length-mapped, Has, some-next, some-stop, some-end}
 use Rattle.rules.specs.Book.{heldSections, sectionAt}
 use Rattle.book_laws.proofs.Held.{held-length, has-section}
-use Rattle.rules.specs.Calls.{codeHeld}
+use Rattle.rules.specs.Calls.{sectionCodeHeld}
 use Rattle.judge.proofs.sections.code_held.Statement.{statement}
 use Rattle.judge.proofs.sections.code_held.Tie as tie
 
 abbrev Inv-loop : tie.InvT-loop
-Inv-loop code from b held i₀ i = codeHeld code (drop from (heldSections b)) ≡ codeHeld code (drop i (heldSections b))
+Inv-loop code from b held i₀ i = sectionCodeHeld code (drop from (heldSections b)) ≡ sectionCodeHeld code (drop i (heldSections b))
 
 abbrev μ-loop : tie.MeasureT-loop
 μ-loop code from b held i₀ i = held - i

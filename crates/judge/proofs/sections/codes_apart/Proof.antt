@@ -1,12 +1,12 @@
 use Rattle.numbers.proofs.Words.{_-_, _≤_, arith, _≡_, refl, sym, _∙_, length, drop, apart, needs}
 use Rattle.numbers.proofs.Lists.{length-mapped, Has, apart-next, apart-stop, apart-end}
-use Rattle.rules.specs.Book.{heldSections, sectionAt, codesAlike}
+use Rattle.rules.specs.Book.{heldSections, sectionAt, sectionCodesAlike}
 use Rattle.book_laws.proofs.Held.{held-length, has-section}
 use Rattle.judge.proofs.sections.codes_apart.Statement.{statement}
 use Rattle.judge.proofs.sections.codes_apart.Tie as tie
 
 abbrev Inv-loop : tie.InvT-loop
-Inv-loop b held i₀ i = apart codesAlike (heldSections b) ≡ apart codesAlike (drop i (heldSections b))
+Inv-loop b held i₀ i = apart sectionCodesAlike (heldSections b) ≡ apart sectionCodesAlike (drop i (heldSections b))
 
 abbrev μ-loop : tie.MeasureT-loop
 μ-loop b held i₀ i = held - i
@@ -36,7 +36,7 @@ code-held-requires : tie.Need-code-held-requires Inv-loop μ-loop
 code-held-requires c κs = search needs
 
 returns : tie.Need-returns Inv-loop μ-loop
-returns c = sym (c .before .before .before .before .before .loop .inv ∙ apart-stop (here (c .before .before .before .before)) codesAlike (sym (c .before .code-held .ensures) ∙ c .if1 .taken))
+returns c = sym (c .before .before .before .before .before .loop .inv ∙ apart-stop (here (c .before .before .before .before)) sectionCodesAlike (sym (c .before .code-held .ensures) ∙ c .if1 .taken))
 
 add-i : tie.Need-add-i Inv-loop μ-loop
 add-i c = search needs
@@ -45,10 +45,10 @@ loop-less : tie.Need-loop-less Inv-loop μ-loop
 loop-less c = omega arith
 
 loop-again : tie.Need-loop-again Inv-loop μ-loop
-loop-again c = c .before .before .before .before .before .loop .inv ∙ apart-next (here (c .before .before .before .before)) codesAlike (sym (c .before .code-held .ensures) ∙ c .if1 .left)
+loop-again c = c .before .before .before .before .before .loop .inv ∙ apart-next (here (c .before .before .before .before)) sectionCodesAlike (sym (c .before .code-held .ensures) ∙ c .if1 .left)
 
 returns-2 : tie.Need-returns-2 Inv-loop μ-loop
-returns-2 c = sym (c .before .loop .inv ∙ apart-end _ (c .before .loop .i) (past c) codesAlike)
+returns-2 c = sym (c .before .loop .inv ∙ apart-end _ (c .before .loop .i) (past c) sectionCodesAlike)
 
 pub codes-apart-spec : {M : Type 1} → statement M
 codes-apart-spec =

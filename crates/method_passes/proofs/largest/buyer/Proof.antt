@@ -1,19 +1,19 @@
 -- The loop's invariant: the best of the first i entries, and the scan of those left, find the largest of all. So in each scan.
 use Rattle.numbers.proofs.Words.{needs, _-_, arith, refl, now}
 use Rattle.rules.specs.Book.{heldSections}
-use Rattle.rules.specs.Expiry.{lowerCode}
+use Rattle.rules.specs.Expiry.{lowerSectionCode}
 use Rattle.method_passes.proofs.Laws.{Scan, scan-start, scan-next, scan-end}
 use Rattle.method_passes.proofs.largest.buyer.Statement.{statement}
 use Rattle.method_passes.proofs.largest.buyer.Tie as tie
 
 abbrev Inv-loop : tie.InvT-loop
-Inv-loop b lots all best₀ i₀ best i = Scan (lowerCode (heldSections b)) lots best i
+Inv-loop b lots all best₀ i₀ best i = Scan (lowerSectionCode (heldSections b)) lots best i
 
 abbrev μ-loop : tie.MeasureT-loop
 μ-loop b lots all best₀ i₀ best i = all - i
 
 loop-holds : tie.Need-loop-holds Inv-loop μ-loop
-loop-holds c = scan-start (lowerCode (heldSections (c .before .args .b))) (now (c .before .args .lots))
+loop-holds c = scan-start (lowerSectionCode (heldSections (c .before .args .b))) (now (c .before .args .lots))
 
 mul-own : tie.Need-mul-own Inv-loop μ-loop
 mul-own c = search needs
@@ -43,12 +43,12 @@ loop-again : tie.Need-loop-again Inv-loop μ-loop
 loop-again c =
     let at = c .before .before .before .before .before in
     let a = at .before .before .args in
-    scan-next (lowerCode (heldSections (a .b))) (now (a .lots)) (at .loop .best) (at .loop .i) _ _ _ _ (c .before .before .before .before .loop-test .taken) (at .loop .inv) refl refl (c .before .lower-code .ensures) (c .leader .ensures)
+    scan-next (lowerSectionCode (heldSections (a .b))) (now (a .lots)) (at .loop .best) (at .loop .i) _ _ _ _ (c .before .before .before .before .loop-test .taken) (at .loop .inv) refl refl (c .before .lower-code .ensures) (c .leader .ensures)
 
 returns : tie.Need-returns Inv-loop μ-loop
 returns c =
     let a = c .before .before .before .args in
-    scan-end (lowerCode (heldSections (a .b))) (now (a .lots)) (c .before .loop .best) (c .before .loop .i) (omega arith) (c .before .loop .inv)
+    scan-end (lowerSectionCode (heldSections (a .b))) (now (a .lots)) (c .before .loop .best) (c .before .loop .i) (omega arith) (c .before .loop .inv)
 
 pub buyer-spec : {M : Type 1} → statement M
 buyer-spec =

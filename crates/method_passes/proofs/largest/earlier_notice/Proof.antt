@@ -1,7 +1,7 @@
 use Rattle.numbers.proofs.Words.{arith, sym, ap₂, _∙_, getD-take, needs}
 use Rattle.rules.specs.declared.book.{Notice.Notice}
 use Rattle.rules.specs.Book.{heldSections, blankNotice}
-use Rattle.rules.specs.Expiry.{lowerCode}
+use Rattle.rules.specs.Expiry.{lowerSectionCode}
 use Rattle.book_laws.proofs.Good.{facts}
 use Rattle.method_passes.proofs.Laws.{seller-held}
 use Rattle.method_passes.proofs.largest.earlier_notice.Statement.{statement}
@@ -37,7 +37,7 @@ returns c =
     let b = start .args .t1 in
     c .lower-code .ensures
     ∙ sym
-    (ap₂ (λ (n m : Notice). lowerCode (heldSections b) (n .section) (m .section))
+    (ap₂ (λ (n m : Notice). lowerSectionCode (heldSections b) (n .section) (m .section))
     (getD-take (b .filed) (b .notices) (start .args .i) blankNotice (start .pre .1))
     (getD-take (b .filed) (b .notices) (start .args .j) blankNotice (start .pre .2)))
 

@@ -1,14 +1,14 @@
 use Rattle.numbers.proofs.Words.{needs, ℕ, _-_, arith, Bool, now}
 use Rattle.rules.specs.declared.book.{Book.Book}
 use Rattle.rules.specs.Book.{heldSections, filedNotices, noticeOf}
-use Rattle.rules.specs.Expiry.{lowerCode}
+use Rattle.rules.specs.Expiry.{lowerSectionCode}
 use Rattle.rules.specs.Expiry.Passes.{offers}
 use Rattle.method_passes.proofs.Laws.{Scan, scan-start, scan-next, scan-end, offers-length}
 use Rattle.method_passes.proofs.largest.notice.Statement.{statement}
 use Rattle.method_passes.proofs.largest.notice.Tie as tie
 
 abbrev earlier : Book → ℕ → ℕ → Bool
-earlier b i j = lowerCode (heldSections b) (noticeOf (filedNotices b) i .section) (noticeOf (filedNotices b) j .section)
+earlier b i j = lowerSectionCode (heldSections b) (noticeOf (filedNotices b) i .section) (noticeOf (filedNotices b) j .section)
 
 abbrev Inv-loop : tie.InvT-loop
 Inv-loop b drawn elevator all best₀ i₀ best i = Scan (earlier b) (offers (filedNotices b) drawn elevator) best i

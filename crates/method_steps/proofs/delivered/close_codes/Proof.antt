@@ -4,7 +4,7 @@ use Rattle.numbers.proofs.Ranges.{listed-at}
 use Rattle.rules.specs.Book.{heldSections}
 use Rattle.rules.specs.Expiry.{netOfCode}
 use Rattle.rules.specs.Expiry.Codes.{givenInCodes}
-use Rattle.rules.specs.Expiry.Across.{leftOpen}
+use Rattle.rules.specs.Expiry.Across.{dOverall}
 use Rattle.book_laws.proofs.Good.{Good, facts}
 use Rattle.method_steps.proofs.Laws.{noughts, front-is, front-fits, front-length, noughts-front, listed-same, nets-small, small-as, within-as, in-codes-within}
 use Rattle.method_steps.proofs.delivered.close_codes.Statement.{statement}
@@ -100,7 +100,7 @@ same-length : tie.Need-same-length
 same-length c = search needs
 
 returns : tie.Need-returns
-unfolding leftOpen
+unfolding dOverall
 returns c =
     let netted = c .before .before .before in
     let at = netted .before .before .before .before .before .before .before .before .before in

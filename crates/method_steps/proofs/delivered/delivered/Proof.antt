@@ -3,8 +3,8 @@ use Rattle.numbers.proofs.Words.{needs, ℕ, _≤_, _≡_, sym, ap₂, subst, _
 use Rattle.rules.specs.Book.{heldSections, filedNotices}
 use Rattle.rules.specs.Expiry
 use Rattle.rules.specs.Expiry.Failing.{failing}
-use Rattle.rules.specs.Expiry.Codes.{gaps, givenInCodes}
-use Rattle.rules.specs.Expiry.Across.{leftOpen, givenAcross}
+use Rattle.rules.specs.Expiry.Codes.{dOfCodes, givenInCodes}
+use Rattle.rules.specs.Expiry.Across.{dOverall, givenAcross}
 use Rattle.rules.specs.Expiry.Call
 use Rattle.book_laws.proofs.Good.{Good, facts}
 use Rattle.method_steps.proofs.Laws.{small-as, left-small, nets-small, failing-small, positions-small}
@@ -23,7 +23,7 @@ module _ (c : tie.Start) where
   sound = less (map Expiry.size (heldSections (c .args .b))) failed
 
   abbrev gap : List ℤ
-  gap = gaps (heldSections (c .args .b)) failed
+  gap = dOfCodes (heldSections (c .args .b)) failed
 
   abbrev inCodes : List ℕ
   inCodes = givenInCodes (heldSections (c .args .b)) gap sound
@@ -32,7 +32,7 @@ module _ (c : tie.Start) where
   left = less sound inCodes
 
   gaps-small : (i : ℕ) → natAbs (entryℤ gap i) ≤ 128_000_000
-  unfolding gaps
+  unfolding dOfCodes
   gaps-small = nets-small (c .args .b) (book c) failed (failing-small (c .args .b) (book c))
 
   sound-small : (i : ℕ) → entry sound i ≤ 1_000_000
@@ -45,11 +45,11 @@ left-is c =
     let ss = heldSections (first .before .before .before .before .args .b) in
     c .close-codes .ensures .0 ∙ ap₂ (λ (gs : List ℤ) (lots : List ℕ). less lots (givenInCodes ss gs lots)) (first .sound .ensures .1) (first .sound .ensures .0)
 
-open-is : (c : tie.After-close-codes) → let start = c .before .before .before .before .before .before .before .before .before .before in c .close-codes .result ≡ leftOpen (heldSections (start .args .b)) (gap start) (inCodes start)
+open-is : (c : tie.After-close-codes) → let start = c .before .before .before .before .before .before .before .before .before .before in c .close-codes .result ≡ dOverall (heldSections (start .args .b)) (gap start) (inCodes start)
 open-is c =
     let first = c .before .before .before .before .before .before in
     let ss = heldSections (first .before .before .before .before .args .b) in
-    c .close-codes .ensures .1 ∙ ap₂ (λ (gs : List ℤ) (lots : List ℕ). leftOpen ss gs (givenInCodes ss gs lots)) (first .sound .ensures .1) (first .sound .ensures .0)
+    c .close-codes .ensures .1 ∙ ap₂ (λ (gs : List ℤ) (lots : List ℕ). dOverall ss gs (givenInCodes ss gs lots)) (first .sound .ensures .1) (first .sound .ensures .0)
 
 slice-aggregate-sound : tie.Need-slice-aggregate-sound
 slice-aggregate-sound c = search needs

@@ -3,7 +3,7 @@ use Rattle.numbers.proofs.Words.{needs, ℕ, _≡_, sym, ap, ap₂, _∙_, List
 use Rattle.rules.specs.Book.{heldSections, filedNotices}
 use Rattle.rules.specs.Expiry.{netOfCode}
 use Rattle.rules.specs.Expiry.Failing.{failing}
-use Rattle.rules.specs.Expiry.Codes.{gaps}
+use Rattle.rules.specs.Expiry.Codes.{dOfCodes}
 use Rattle.book_laws.proofs.Good.{Good, facts}
 use Rattle.method_steps.proofs.Laws.{noughts, front-is, front-fits, front-length, small-as, within-as, failed-within, failing-small}
 use Rattle.method_steps.proofs.delivered.sound.Statement.{statement}
@@ -85,7 +85,7 @@ same-length-2 : tie.Need-same-length-2
 same-length-2 c = search needs
 
 returns : tie.Need-returns
-unfolding gaps
+unfolding dOfCodes
 returns c =
     let netted = c .before in
     let took = netted .before .before .before .before .before in

@@ -1,8 +1,8 @@
 use Rattle.numbers.proofs.Words.{arith, _≡_, sym, ap, ap₂, subst₂, _∙_, not, ℤ, natAbs, _+ℤ_, w64, SFits, toZ, ofZ, toZ-ofZ, within, needs}
 use Rattle.numbers.proofs.Whole.{sum, size, sfits-size, read-back}
 use Rattle.rules.specs.Book.{positionOf}
-use Rattle.call_trade.proofs.passes.Statement.{statement}
-use Rattle.call_trade.proofs.passes.Tie as tie
+use Rattle.call_trade.proofs.exceeds.Statement.{statement}
+use Rattle.call_trade.proofs.exceeds.Tie as tie
 
 position-read : (c : tie.After-struct-told) → toZ w64 (ofZ w64 (positionOf (c .before .args .s))) ≡ positionOf (c .before .args .s)
 position-read c = read-back w64 _ (search)
@@ -28,5 +28,5 @@ within-requires c κs = search needs
 returns : tie.Need-returns
 returns c = ap not (c .within .ensures ∙ ap (λ (z : ℤ). within z 1_000_000) (ap (λ (z : ℤ). toZ w64 (ofZ w64 z)) (added (c .before)) ∙ toZ-ofZ (fits (c .before .before .before))))
 
-pub passes-spec : {M : Type 1} → statement M
-passes-spec = tie.close (tie.spec sum-requires within-requires returns)
+pub exceeds-spec : {M : Type 1} → statement M
+exceeds-spec = tie.close (tie.spec sum-requires within-requires returns)
