@@ -9,6 +9,7 @@ use rules::limits::BAD_BOOK;
 use rules::limits::EXPIRED;
 use rules::limits::UNKNOWN_SECTION;
 
+// The number of a condition call on a good book (01, Condition, 1).
 pub fn refusal(b: Book, section: u8) -> u8
     requires { ⌜ good b ≡ true ⌝ }
     ensures { λ n. ⌜ n ≡ Rules.conditionNumber b section ⌝ }
@@ -34,6 +35,7 @@ pub fn marked(b: Book, section: u8, met: bool) -> Book
     next
 }
 
+// The book with the section's mark set, or a refusal and the same book (01, Condition, 1; 01, Book, 5 and 6 and 7; 01, Bound, a).
 pub fn set_condition(b: Book, section: u8, met: bool) -> Answer
     ensures { λ a. ⌜ a ≡ Rules.conditionAnswer b section met ⌝ }
 {

@@ -20,6 +20,7 @@ use rules::limits::NOTICES_FULL;
 use rules::limits::UNKNOWN_SECTION;
 use rules::units::Lots;
 
+// The number of a notice call on a good book (01, Notice, 1).
 pub fn refusal(b: Book, section: u8, elevator: u8, lots: u32) -> u8
     requires { ⌜ good b ≡ true ⌝ }
     ensures { λ n. ⌜ n ≡ Rules.noticeNumber b section elevator lots ⌝ }
@@ -62,6 +63,7 @@ pub fn filed(b: Book, section: u8, elevator: u8, lots: u32) -> Book
     next
 }
 
+// The book with the notice, or a refusal and the same book (01, Notice, 1; 01, Book, 5 and 6 and 7; 01, Bound, a).
 pub fn file_notice(b: Book, section: u8, elevator: u8, lots: u32) -> Answer
     ensures { λ a. ⌜ a ≡ Rules.noticeAnswer b section elevator lots ⌝ }
 {

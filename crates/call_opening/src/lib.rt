@@ -62,6 +62,7 @@ fn blank_book(lot: u32, w: u32, r: u32) -> Book
     }
 }
 
+// The number of an opening (01, Opening, 1).
 pub fn refusal(lot: u32, w: u32, r: u32) -> u8
     ensures { λ n. ⌜ n ≡ Rules.openingNumber lot w r ⌝ }
 {
@@ -77,7 +78,7 @@ pub fn refusal(lot: u32, w: u32, r: u32) -> u8
     ACCEPTED
 }
 
-// A new book of the terms, or a refusal and the book of noughts.
+// A new book of the terms, or a refusal and the book of noughts (01, Opening, 1; 01, Book, 7; 01, Bound, a).
 pub fn open(lot: u32, w: u32, r: u32) -> Answer
     ensures { λ a. ⌜ a ≡ Rules.openingAnswer lot w r ⌝ }
 {

@@ -19,6 +19,7 @@ use rules::limits::SETTLEMENT_MOST;
 use rules::units::Kopecks;
 use rules::units::Lots;
 
+// The number of a section call on a good book (01, Section, 1).
 pub fn refusal(b: Book, settlement: u8, code: [u8; 7]) -> u8
     requires { ⌜ good b ≡ true ⌝ }
     ensures { λ n. ⌜ n ≡ Rules.sectionNumber b settlement code ⌝ }
@@ -41,6 +42,7 @@ pub fn refusal(b: Book, settlement: u8, code: [u8; 7]) -> u8
     ACCEPTED
 }
 
+// A section with no lots, its condition not met (01, Book, 3).
 fn new_section(settlement: u8, code: [u8; 7], participant: u32, seller: bool) -> Section
     ensures { λ s. ⌜ s ≡ Rules.newSection settlement code participant seller ⌝ }
 {
@@ -68,6 +70,7 @@ pub fn with_section(b: Book, settlement: u8, code: [u8; 7], participant: u32, se
     next
 }
 
+// A section more, or a refusal and the same book (01, Section, 1; 01, Book, 5 and 6 and 7; 01, Bound, a).
 pub fn open_section(
     b: Book,
     settlement: u8,

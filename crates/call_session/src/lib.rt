@@ -16,7 +16,7 @@ use rules::limits::PRICE_MOST;
 use rules::units::Kopecks;
 use value::signed;
 
-// `room` is the length of the margin list.
+// The number of a session on a good book; `room` is the length of the margin list (01, Session, 1).
 pub fn refusal(b: Book, price: u32, room: usize) -> u8
     requires { ⌜ good b ≡ true ⌝ }
     ensures { λ n. ⌜ n ≡ Rules.sessionNumber b price room ⌝ }
@@ -33,6 +33,7 @@ pub fn refusal(b: Book, price: u32, room: usize) -> u8
     ACCEPTED
 }
 
+// The kind of session that comes next (01, Session, 2).
 fn following(last: LastSession) -> LastSession
     ensures { λ r. ⌜ r ≡ Rules.following last ⌝ }
 {
@@ -43,7 +44,7 @@ fn following(last: LastSession) -> LastSession
     }
 }
 
-// A section's margin: position times value, less basis.
+// A section's margin: position times value, less basis (01, Session, 3).
 fn margin(s: Section, value: Kopecks) -> i64
     requires { ⌜ (natAbs (positionOf s) ≤ 1_000_000) × (natAbs (basisOf s) ≤ 21_000_000_000_000_000) ⌝ }
     requires { ⌜ natAbs (value .0) ≤ 1_000_000_000 ⌝ }
@@ -55,7 +56,7 @@ fn margin(s: Section, value: Kopecks) -> i64
     signed::difference(worth, basis)
 }
 
-// A section after the session: its basis is position times value.
+// A section after the session: its basis is position times value (01, Session, 3).
 fn settled(s: Section, value: Kopecks) -> Section
     requires { ⌜ (natAbs (positionOf s) ≤ 1_000_000) × (natAbs (value .0) ≤ 1_000_000_000) ⌝ }
     ensures { λ r. ⌜ r ≡ Rules.settled value s ⌝ }
@@ -67,7 +68,7 @@ fn settled(s: Section, value: Kopecks) -> Section
     next
 }
 
-// The book after the session; each section's margin goes into its place of the list.
+// The book after the session; each section's margin goes into its place of the list (01, Session, 3).
 pub fn after_session(b: Book, price: u32, margins: &mut [i64]) -> Book
     requires { ⌜ Rules.sessionNumber b price (length (now margins)) ≡ 0 ⌝ }
     ensures { λ r. ⌜ r ≡ Rules.afterSession b price ⌝ }
@@ -102,6 +103,7 @@ pub fn after_session(b: Book, price: u32, margins: &mut [i64]) -> Book
     }
 }
 
+// A session: margins in the list and the book after it, or a refusal with both as they were (01, Session, 1 and 2 and 3; 01, Book, 5 and 6 and 7; 01, Bound, a).
 pub fn hold_session(b: Book, price: u32, margins: &mut [i64]) -> Answer
     ensures { λ a. ⌜ a ≡ Rules.sessionAnswer b price (length (now (margins .entry))) ⌝ }
     ensures { λ a. ⌜ now (margins .exit) ≡ Rules.sessionMargins b price (now (margins .entry)) ⌝ }

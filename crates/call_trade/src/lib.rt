@@ -24,7 +24,7 @@ use rules::units::Kopecks;
 use rules::units::Lots;
 use value::signed;
 
-// Whether a position, so many lots on, would pass its limit.
+// Whether a position, so many lots on, would be beyond its limit (01, Trade, 1).
 fn exceeds(s: Section, lots: i64) -> bool
     requires { ⌜ (natAbs (positionOf s) ≤ 1_000_000) × (natAbs lots ≤ 10_000) ⌝ }
     ensures { λ r. ⌜ r ≡ Rules.exceeds s lots ⌝ }
@@ -34,6 +34,7 @@ fn exceeds(s: Section, lots: i64) -> bool
     !signed::within(next, POSITION_MOST)
 }
 
+// 5, 10 and 11 of a trade, 0 where none of them is said (01, Trade, 1).
 fn party_refusal(b: Book, buyer: u8, seller: u8) -> u8
     requires { ⌜ good b ≡ true ⌝ }
     ensures { λ n. ⌜ n ≡ first (Rules.partyRefusals b buyer seller) ⌝ }
@@ -56,6 +57,7 @@ fn party_refusal(b: Book, buyer: u8, seller: u8) -> u8
     ACCEPTED
 }
 
+// 12 and 13 of a trade (01, Trade, 1).
 fn size_refusal(r: u32, price: u32, lots: u32) -> u8
     requires { ⌜ 1 ≤ r ⌝ }
     ensures { λ n. ⌜ n ≡ first (Rules.sizeRefusals r price lots) ⌝ }
@@ -72,6 +74,7 @@ fn size_refusal(r: u32, price: u32, lots: u32) -> u8
     ACCEPTED
 }
 
+// 14 and 15 of a trade (01, Trade, 1).
 fn room_refusal(b: Book, buyer: u8, seller: u8, lots: u32) -> u8
     requires { ⌜ good b ≡ true ⌝ }
     requires { ⌜ (buyer < b .held) × (seller < b .held) × (lots ≤ 10_000) ⌝ }
@@ -91,6 +94,7 @@ fn room_refusal(b: Book, buyer: u8, seller: u8, lots: u32) -> u8
     ACCEPTED
 }
 
+// The number of a trade on a good book (01, Trade, 1).
 pub fn refusal(b: Book, buyer: u8, seller: u8, price: u32, lots: u32) -> u8
     requires { ⌜ good b ≡ true ⌝ }
     ensures { λ n. ⌜ n ≡ Rules.tradeNumber b buyer seller price lots ⌝ }
@@ -106,7 +110,7 @@ pub fn refusal(b: Book, buyer: u8, seller: u8, price: u32, lots: u32) -> u8
     room_refusal(b, buyer, seller, lots)
 }
 
-// A section after a trade of so many lots, bought plus, sold minus, at an entry value.
+// A section after so many lots at an entry value, bought plus, sold minus (01, Book, 3).
 fn moved(s: Section, lots: Lots, value: Kopecks) -> Section
     requires { ⌜ (natAbs (positionOf s) ≤ 1_000_000) × (natAbs (basisOf s) ≤ 21_000_000_000_000_000) ⌝ }
     requires { ⌜ (natAbs (lots .0) ≤ 10_000) × (natAbs (value .0) ≤ 1_000_000_000) ⌝ }
@@ -143,6 +147,7 @@ pub fn traded(b: Book, buyer: u8, seller: u8, price: u32, lots: u32) -> Book
     next
 }
 
+// The book after a trade, or a refusal and the same book (01, Trade, 1; 01, Book, 5 and 6 and 7; 01, Bound, a).
 pub fn trade(b: Book, buyer: u8, seller: u8, price: u32, lots: u32) -> Answer
     ensures { λ a. ⌜ a ≡ Rules.tradeAnswer b buyer seller price lots ⌝ }
 {

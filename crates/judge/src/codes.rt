@@ -2,6 +2,7 @@
 ghost use Rattle.rules.specs.Words.{_≡_, same};
 ghost use Rattle.rules.specs.Book.{byteGood, sectionCodeGood};
 
+// Whether a byte is a digit or a capital letter (01, Book, 3).
 fn byte_good(byte: u8) -> bool
     ensures { λ r. ⌜ r ≡ byteGood byte ⌝ }
 {
@@ -17,7 +18,7 @@ fn byte_good(byte: u8) -> bool
     byte <= 90
 }
 
-// Whether a section code has seven bytes, as its type says, and each of them is allowed.
+// Whether a section code has seven bytes, as its type says, and each of them is allowed (01, Book, 3).
 pub fn code_good(code: [u8; 7]) -> bool
     ensures { λ r. ⌜ r ≡ sectionCodeGood code ⌝ }
 {
@@ -31,7 +32,7 @@ pub fn code_good(code: [u8; 7]) -> bool
     true
 }
 
-// Whether two section codes are the same seven bytes.
+// Whether two section codes are the same seven bytes (01, Forms, 7).
 pub fn same_code(a: [u8; 7], b: [u8; 7]) -> bool
     ensures { λ r. ⌜ r ≡ same a b ⌝ }
 {

@@ -10,6 +10,7 @@ pub mod notices;
 pub mod sections;
 pub mod terms;
 
+// Whether every place not in use is noughts (01, Book, 2).
 fn tails_blank(b: Book) -> bool
     ensures { λ r. ⌜ r ≡ tailsBlank b ⌝ }
 {
@@ -19,7 +20,7 @@ fn tails_blank(b: Book) -> bool
     notices::notices_blank(b)
 }
 
-// Whether the book keeps all its rules.
+// Whether the book keeps every rule and limit; a call refuses any other with 1 (01, Book, 1 and 2 and 3 and 4 and 5; 01, Value, 1).
 pub fn good(b: Book) -> bool
     ensures { λ r. ⌜ r ≡ Rules.good b ⌝ }
 {

@@ -9,6 +9,7 @@ use rules::limits::NOTICE_LOTS_MOST;
 use rules::limits::NOTICE_PLACES;
 use value::signed;
 
+// Whether a notice keeps its limits (01, Notice, 1).
 fn notice_good(n: Notice, held: usize) -> bool
     ensures { λ r. ⌜ r ≡ noticeGood held n ⌝ }
 {
@@ -89,6 +90,7 @@ fn notices_apart(b: Book) -> bool
     true
 }
 
+// Whether every notice filed keeps its limits, and no two are of one section at one elevator (01, Notice, 1).
 pub fn notices_good(b: Book) -> bool
     requires { ⌜ b .filed ≤ 256 ⌝ }
     ensures { λ r. ⌜ r ≡ noticesGood b ⌝ }

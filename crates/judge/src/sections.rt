@@ -12,6 +12,7 @@ use rules::limits::SECTION_PLACES;
 use rules::limits::SETTLEMENT_MOST;
 use value::signed;
 
+// Whether a section keeps its limits (01, Book, 3 and 4).
 fn section_good(s: Section, trades: u32) -> bool
     requires { ⌜ trades ≤ 2_000 ⌝ }
     ensures { λ r. ⌜ r ≡ sectionGood trades s ⌝ }
@@ -109,7 +110,7 @@ fn codes_apart(b: Book) -> bool
     true
 }
 
-// Whether positions sum to zero, and bases too.
+// Whether positions sum to zero, and bases too (01, Book, 4).
 fn sums_zero(b: Book) -> bool
     requires { ⌜ (b .held ≤ 128) × (b .trades ≤ 2_000) ⌝ }
     requires { ⌜ every (sectionGood (b .trades)) (heldSections b) ≡ true ⌝ }
@@ -133,6 +134,7 @@ fn sums_zero(b: Book) -> bool
     signed::within(bases, 0)
 }
 
+// Whether every section held keeps its limits, no two codes are alike and both sums are zero (01, Book, 3 and 4).
 pub fn sections_good(b: Book) -> bool
     requires { ⌜ (b .held ≤ 128) × (b .trades ≤ 2_000) ⌝ }
     ensures { λ r. ⌜ r ≡ sectionsGood b ⌝ }

@@ -40,6 +40,7 @@ pub fn factor_good(w: u32, r: u32) -> bool
     k <= FACTOR_MOST
 }
 
+// Whether lot, W, R and K keep their limits (01, Opening, 1).
 pub fn terms_good(b: Book) -> bool
     ensures { λ r. ⌜ r ≡ termsGood b ⌝ }
 {
@@ -63,6 +64,7 @@ pub fn places_good(b: Book) -> bool
     b.filed <= NOTICE_PLACES
 }
 
+// Whether the last price fits the last session: 0 exactly where there was none (01, Book, 1).
 pub fn last_good(last: LastSession, price: u32) -> bool
     ensures { λ r. ⌜ r ≡ lastGood last price ⌝ }
 {
@@ -73,7 +75,7 @@ pub fn last_good(last: LastSession, price: u32) -> bool
     }
 }
 
-// V of a price under the book's terms.
+// V of a price under the book's own terms (01, Value, 5).
 pub fn value_at(b: Book, price: u32) -> Kopecks
     requires { ⌜ good b ≡ true ⌝ }
     ensures { λ v. ⌜ v ≡ valueAt b price ⌝ }

@@ -9,7 +9,7 @@ use rules::units::Lots;
 
 pub mod signed;
 
-// The one rounding: n / d to a whole number, an exact half up.
+// The one rounding: n / d to a whole number, a half upwards (01, Value, 4).
 fn rounded(n: u64, d: u64) -> u64
     ensures { λ r. ⌜ r ≡ Value.rounded n d ⌝ }
 {
@@ -22,14 +22,14 @@ fn rounded(n: u64, d: u64) -> u64
     if rest < gap { whole } else { whole + 1 }
 }
 
-// K, in hundred-thousandths of a kopeck for a kopeck of price.
+// K, in hundred-thousandths of a kopeck for a kopeck of price (01, Value, 1 and 2).
 pub fn factor(w: u32, r: u32) -> u64
     ensures { λ k. ⌜ k ≡ Value.factor w r ⌝ }
 {
     rounded(FACTOR_UNIT * (w as u64), r as u64)
 }
 
-// V, in kopecks for one lot.
+// V, in kopecks for one lot (01, Value, 3).
 pub fn value(k: u32, price: u32) -> Kopecks
     ensures { λ v. ⌜ v ≡ valueOf k price ⌝ }
 {
@@ -37,7 +37,7 @@ pub fn value(k: u32, price: u32) -> Kopecks
     Kopecks(v as i64)
 }
 
-// What lots are worth at a value for one lot.
+// What lots are worth at a value for one lot (01, Head, 4; 01, Forms, 4).
 pub fn worth(lots: Lots, value: Kopecks) -> Kopecks
     requires { ⌜ (natAbs (lots .0) ≤ 1_000_000) × (natAbs (value .0) ≤ 1_000_000_000) ⌝ }
     ensures { λ r. ⌜ r ≡ Units.worth lots value ⌝ }
