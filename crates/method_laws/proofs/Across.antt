@@ -6,7 +6,8 @@ use Rattle.numbers.proofs.Under.{under-same, under-none, under-two}
 use Rattle.numbers.proofs.Ranges.{listed-at, total-long, sum-same, sum-both, sum-classes, sum-within, sum-nothing}
 use Rattle.rules.specs.Book.{positionOf, sectionOf}
 use Rattle.rules.specs.Expiry.{opposed, chosen}
-use Rattle.rules.specs.Expiry.Across.{codeCaps, givenAcross}
+use Rattle.rules.specs.Expiry.Across.{givenAcross}
+use Rattle.method_laws.specs.Giving.{codeCaps}
 use Rattle.method_laws.proofs.Greedy.{ofCode, Given, given}
 use Rattle.method_laws.proofs.Sides.{lotsOf, sideOf, allOf, chosen-within, lots-less, side-classes}
 

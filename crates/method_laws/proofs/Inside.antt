@@ -10,6 +10,7 @@ use Rattle.numbers.proofs.Tests.{and-left, and-right, together, below-or-not}
 use Rattle.rules.specs.Book.{positionOf, sectionOf}
 use Rattle.rules.specs.Expiry.{size, isLong, isShort, agreed, netOfCode, chosen}
 use Rattle.rules.specs.Expiry.Outside.{outside}
+use Rattle.method_laws.proofs.Shares.{Told}
 use Rattle.method_laws.proofs.Greedy.{ofCode, Given, given, given-by-code, one-part}
 use Rattle.method_laws.proofs.Sides.{sideOf, allOf, chosen-within, lots-less, side-classes, net-sides, code-sides}
 use Rattle.method_laws.proofs.Across.{chosen-of-code, lots-none}
@@ -22,7 +23,7 @@ agrees-long p d e = simp (e, long-not-short d e, and-true, and-false, or-false)
 agrees-short : (p d : ℤ) → isShort d ≡ true → agreed p d ≡ isShort p
 agrees-short p d e = simp (e, short-not-long d e, and-true, and-false)
 
-module _ (ss : List Section) (codes : (i : ℕ) → i < length ss → sectionOf ss i .settlement < 64) (kept : List ℕ) (within : (i : ℕ) → entry kept i ≤ size (sectionOf ss i)) where
+module _ (ss : List Section) (codes : (i : ℕ) → i < length ss → sectionOf ss i .settlement < 64) (told : Told ss) (kept : List ℕ) (within : (i : ℕ) → entry kept i ≤ size (sectionOf ss i)) where
   abbrev nets : List ℤ
   nets = listed 64 (netOfCode ss kept)
 

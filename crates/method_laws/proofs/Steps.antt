@@ -10,8 +10,10 @@ use Rattle.rules.specs.Expiry.{isLong, isShort, opposed, onSideOf, netOfCode, c
 use Rattle.rules.specs.Expiry
 use Rattle.rules.specs.Expiry.Failing.{fails, failing}
 use Rattle.rules.specs.Expiry.Codes.{dOfCodes, givenInCodes}
-use Rattle.rules.specs.Expiry.Across.{dOverall, codeCaps, givenAcross}
+use Rattle.rules.specs.Expiry.Across.{dOverall, codeCap, givenAcross}
+use Rattle.method_laws.specs.Giving.{codeCaps}
 use Rattle.rules.specs.Expiry.Call.{delivered}
+use Rattle.method_laws.proofs.Shares.{Told}
 use Rattle.method_laws.proofs.Greedy.{Given, given}
 use Rattle.method_laws.proofs.Across.{closed-even}
 use Rattle.method_laws.proofs.Sides.{sideOf, allOf, Within, lots-less, lots-most, side-classes, net-sides, on-side, chosen-within}
@@ -55,7 +57,7 @@ positions-sides ss =
     whole (pos n) = refl
     whole (negsuc n) = refl
 
-module _ (ss : List Section) (ns : List Notice) (codes : (i : ℕ) → i < length ss → sectionOf ss i .settlement < 64) (even : totalℤ (map positionOf ss) ≡ pos 0) where
+module _ (ss : List Section) (ns : List Notice) (codes : (i : ℕ) → i < length ss → sectionOf ss i .settlement < 64) (told : Told ss) (even : totalℤ (map positionOf ss) ≡ pos 0) where
   -- the steps' lists, as `delivered` has them
   abbrev sizes : List ℕ
   sizes = map Expiry.size ss
