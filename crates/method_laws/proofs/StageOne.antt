@@ -1,12 +1,10 @@
 -- Stage one: the pairs that a pass forms.
 use Rattle.numbers.proofs.Words.{ℕ, zero, suc, _+_, _-_, _≤_, _<_, min, min-le-left, min-le-right, arith, _≡_, refl, sym, ap, _∙_, Bool, true, false, cond, List, [], _∷_, map, _⊎_, inl, inr, ⊎-elim, eqb, ltb, length, set, lt-ltb, eqb-true, eqb-false, every, entry, gathered, total}
-use Rattle.rules.specs.declared.book.{Section.Section}
 use Rattle.numbers.proofs.Entries.{entry-part, none-past, none-total, off-entry, off-total}
 use Rattle.numbers.proofs.Counts.{live, live-empty, live-some, live-off}
 use Rattle.numbers.proofs.Tests.{together, below-or-not}
 use Rattle.numbers.proofs.Ranges.{total-entries}
 use Rattle.numbers.proofs.Orders.{largest-none}
-use Rattle.rules.specs.Expiry.{lowerSectionCode}
 use Rattle.rules.specs.Expiry.Passes.{Pair, fullestBuyer, fullestElevator, stageOne}
 
 -- the lots of the pairs that pass a test
@@ -68,16 +66,16 @@ module _ (buyers elevators : List ℕ) (b e amount : ℕ) (some : 0 < amount) (o
       }
 
 -- stage one pairs all lots, where buyers and elevators have as many and there are turns enough
-pub paired : (ss : List Section) (turns : ℕ) (buyers elevators : List ℕ) → total buyers ≡ total elevators → live (length buyers) (entry buyers) + live (length elevators) (entry elevators) ≤ turns → Paired buyers elevators (stageOne ss turns buyers elevators)
+pub paired : (lower : ℕ → ℕ → Bool) (turns : ℕ) (buyers elevators : List ℕ) → total buyers ≡ total elevators → live (length buyers) (entry buyers) + live (length elevators) (entry elevators) ≤ turns → Paired buyers elevators (stageOne lower turns buyers elevators)
 unfolding stageOne
-paired ss zero buyers elevators even enough =
+paired lower zero buyers elevators even enough =
     paired-none buyers elevators
     (none-past buyers (live-empty (length buyers) (entry buyers) (omega (arith, enough))))
     (none-past elevators (live-empty (length elevators) (entry elevators) (omega (arith, enough))))
-paired ss (suc turns) buyers elevators even enough = go (eqb amount 0) refl (paired ss turns _ _)
+paired lower (suc turns) buyers elevators even enough = go (eqb amount 0) refl (paired lower turns _ _)
   where
     b : ℕ
-    b = fullestBuyer ss buyers
+    b = fullestBuyer lower buyers
 
     e : ℕ
     e = fullestElevator elevators
@@ -103,7 +101,7 @@ paired ss (suc turns) buyers elevators even enough = go (eqb amount 0) refl (pai
     nothing zero-amount =
         ⊎-elim
         (λ (h : entry buyers b ≡ amount).
-        let none = largest-none (lowerSectionCode ss) buyers (h ∙ zero-amount) in
+        let none = largest-none lower buyers (h ∙ zero-amount) in
         paired-none buyers elevators none (λ c. omega (arith, even, none-total buyers (λ i l. none i), entry-part elevators c)))
         (λ (h : entry elevators e ≡ amount).
         let none = largest-none (λ (i j : ℕ). ltb i j) elevators (h ∙ zero-amount) in
@@ -112,12 +110,12 @@ paired ss (suc turns) buyers elevators even enough = go (eqb amount 0) refl (pai
 
     go : (t : Bool) → eqb amount 0 ≡ t
         → (total buyers-left ≡ total elevators-left → live (length buyers-left) (entry buyers-left) + live (length elevators-left) (entry elevators-left) ≤ turns
-        → Paired buyers-left elevators-left (stageOne ss turns buyers-left elevators-left))
-        → Paired buyers elevators (elim t [ true ↦ [] | false ↦ pair ∷ stageOne ss turns buyers-left elevators-left ])
+        → Paired buyers-left elevators-left (stageOne lower turns buyers-left elevators-left))
+        → Paired buyers elevators (elim t [ true ↦ [] | false ↦ pair ∷ stageOne lower turns buyers-left elevators-left ])
     go true none rest = nothing (eqb-true amount 0 none)
     go false above rest =
         let some : 0 < amount = omega (arith, eqb-false amount 0 above) in
         let of-buyer = min-le-left (entry buyers b) (entry elevators e) in
         let of-elevator = min-le-right (entry buyers b) (entry elevators e) in
-        paired-more buyers elevators b e amount some of-buyer of-elevator ends (stageOne ss turns buyers-left elevators-left)
+        paired-more buyers elevators b e amount some of-buyer of-elevator ends (stageOne lower turns buyers-left elevators-left)
         (rest (left-even buyers elevators b e amount some of-buyer of-elevator ends even) (omega (arith, enough, left-lives buyers elevators b e amount some of-buyer of-elevator ends)))
