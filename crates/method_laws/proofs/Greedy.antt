@@ -9,6 +9,7 @@ use Rattle.numbers.proofs.Ranges.{chosen-yes, chosen-no, sum-nothing, sum-chang
 use Rattle.numbers.proofs.Orders.{ordered-total, times, Once, first-once, first-below, rest-once, ordered-once}
 use Rattle.numbers.proofs.Tests.{and-left, and-right, both, below-or-not, same-or-not}
 use Rattle.rules.specs.Book.{sectionOf}
+use Rattle.rules.specs.Expiry.{lowerSectionCode}
 use Rattle.method_laws.specs.Giving.{inOrder, takenFrom, taken}
 
 -- a section that gives nothing does not give in part
@@ -207,21 +208,21 @@ module _ (ss : List Section) (lots : List ℕ) where
       ap (λ (v : ℕ). one (eqb (code i) c and ltb 0 v and ltb v (entry lots i))) (noughts-at (length ss) i) ∙ not-in-part (eqb (code i) c) (ltb 0 (entry lots i)))
 
   -- an order has all sections, each once
-  order-held : (sooner : ℕ → ℕ → Bool) (c : ℕ) → held c (inOrder sooner ss lots) ≡ ofCode ss c lots
+  order-held : (sooner : ℕ → ℕ → Bool) (c : ℕ) → held c (inOrder sooner (lowerSectionCode ss) lots (length ss)) ≡ ofCode ss c lots
   unfolding inOrder
   order-held sooner c = ordered-total _+_ 0 naturals _ (λ (i : ℕ). cond (eqb (code i) c) (entry lots i) 0) (counted 0 (length ss))
 
-  order-fresh : (sooner : ℕ → ℕ → Bool) → Fresh (inOrder sooner ss lots) (replicate (length ss) 0)
+  order-fresh : (sooner : ℕ → ℕ → Bool) → Fresh (inOrder sooner (lowerSectionCode ss) lots (length ss)) (replicate (length ss) 0)
   unfolding inOrder
   order-fresh sooner = record { order = ordered-once _ (length ss); empty = λ j h. noughts-at (length ss) j; long = length-replicate (length ss) 0 }
 
   taken-outcome : (sooner : ℕ → ℕ → Bool) (caps : List ℕ) (need : ℕ)
-      → Outcome (inOrder sooner ss lots) caps need (replicate (length ss) 0) (taken ss (inOrder sooner ss lots) lots caps need)
+      → Outcome (inOrder sooner (lowerSectionCode ss) lots (length ss)) caps need (replicate (length ss) 0) (taken ss (inOrder sooner (lowerSectionCode ss) lots (length ss)) lots caps need)
   unfolding taken
-  taken-outcome sooner caps need = outcome (inOrder sooner ss lots) caps need (replicate (length ss) 0) (order-fresh sooner)
+  taken-outcome sooner caps need = outcome (inOrder sooner (lowerSectionCode ss) lots (length ss)) caps need (replicate (length ss) 0) (order-fresh sooner)
 
   -- the giving of all sections, in an order
-  pub given : (sooner : ℕ → ℕ → Bool) (caps : List ℕ) (need : ℕ) → Given caps need (taken ss (inOrder sooner ss lots) lots caps need)
+  pub given : (sooner : ℕ → ℕ → Bool) (caps : List ℕ) (need : ℕ) → Given caps need (taken ss (inOrder sooner (lowerSectionCode ss) lots (length ss)) lots caps need)
   given sooner caps need =
       let o = taken-outcome sooner caps need in
       record {
@@ -234,17 +235,17 @@ module _ (ss : List Section) (lots : List ℕ) where
 
   -- where the need is that of all caps, it never ends the giving
   pub given-by-code : (sooner : ℕ → ℕ → Bool) (caps : List ℕ) (need c : ℕ) → total caps ≤ need
-      → ofCode ss c (taken ss (inOrder sooner ss lots) lots caps need) ≡ min (entry caps c) (ofCode ss c lots)
+      → ofCode ss c (taken ss (inOrder sooner (lowerSectionCode ss) lots (length ss)) lots caps need) ≡ min (entry caps c) (ofCode ss c lots)
   given-by-code sooner caps need c enough = omega (arith, taken-outcome sooner caps need .by-code enough c, none-of c, order-held sooner c)
 
   -- and at most one section of a code gives in part
   pub one-part : (sooner : ℕ → ℕ → Bool) (caps : List ℕ) (need c : ℕ) → total caps ≤ need
       → many (length ss)
       (λ (i : ℕ).
-      eqb (sectionOf ss i .settlement) c and ltb 0 (entry (taken ss (inOrder sooner ss lots) lots caps need) i) and ltb (entry (taken ss (inOrder sooner ss lots) lots caps need) i) (entry lots i))
+      eqb (sectionOf ss i .settlement) c and ltb 0 (entry (taken ss (inOrder sooner (lowerSectionCode ss) lots (length ss)) lots caps need) i) and ltb (entry (taken ss (inOrder sooner (lowerSectionCode ss) lots (length ss)) lots caps need) i) (entry lots i))
       ≤ 1
   one-part sooner caps need c enough = omega (arith, taken-outcome sooner caps need .parts enough c, none-in-part c)
 
   -- a section that has nothing gives nothing
-  pub given-none : (sooner : ℕ → ℕ → Bool) (caps : List ℕ) (need i : ℕ) → entry lots i ≡ 0 → entry (taken ss (inOrder sooner ss lots) lots caps need) i ≡ 0
+  pub given-none : (sooner : ℕ → ℕ → Bool) (caps : List ℕ) (need i : ℕ) → entry lots i ≡ 0 → entry (taken ss (inOrder sooner (lowerSectionCode ss) lots (length ss)) lots caps need) i ≡ 0
   given-none sooner caps need i none = omega (arith, given sooner caps need .each i, none)

@@ -8,7 +8,7 @@ use Rattle.numbers.proofs.Changed.{read-at}
 use Rattle.numbers.proofs.Ranges.{listed-at, listed-length, less-at, sum-same, sum-empty}
 use Rattle.numbers.proofs.Tests.{and-left, and-right, together, below-or-not}
 use Rattle.rules.specs.Book.{positionOf, sectionOf}
-use Rattle.rules.specs.Expiry.{size, isLong, isShort, agreed, netOfCode, chosen}
+use Rattle.rules.specs.Expiry.{size, isLong, isShort, agreed, netOfCode, chosen, lowerSectionCode}
 use Rattle.rules.specs.Expiry.Outside.{outside}
 use Rattle.method_laws.specs.Giving.{sooner, inOrder, taken}
 use Rattle.method_laws.proofs.Shares.{Told, taken-sizes}
@@ -43,7 +43,7 @@ module _ (ss : List Section) (codes : (i : ℕ) → i < length ss → sectionOf 
   abbrev pub near : List ℕ
   near = less kept far
 
-  taken-far : taken ss (inOrder (sooner true) ss leading) leading caps (total caps) ≡ far
+  taken-far : taken ss (inOrder (sooner true) (lowerSectionCode ss) leading (length ss)) leading caps (total caps) ≡ far
   unfolding outside
   taken-far = taken-sizes ss told true leading nets (listed-length (length ss) _)
 

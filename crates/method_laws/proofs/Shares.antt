@@ -34,7 +34,7 @@ sooner-apart false x y p q = omega (arith, ltb-false x y p, ltb-false y x q)
 -- so the order by lots, then by section code, tells them apart
 module _ (ss : List Section) (told : Told ss) (larger : Bool) (lots : List ℕ) where
   abbrev comes : ℕ → ℕ → Bool
-  comes = earlier (sooner larger) ss lots
+  comes = earlier (sooner larger) (lowerSectionCode ss) lots
 
   split : (i j : ℕ) → comes i j ≡ true → (sooner larger (entry lots i) (entry lots j) ≡ true) ⊎ ((entry lots i ≡ entry lots j) × (lowerSectionCode ss i j ≡ true))
   split i j e =
@@ -76,7 +76,7 @@ module _ (ss : List Section) (told : Told ss) (larger : Bool) (lots : List ℕ) 
     code i = sectionOf ss i .settlement
 
     abbrev order : List ℕ
-    order = inOrder (sooner larger) ss lots
+    order = inOrder (sooner larger) (lowerSectionCode ss) lots (length ss)
 
     -- what a section may give for its code, and what it gives
     abbrev allowed : List ℕ
@@ -237,11 +237,11 @@ module _ (ss : List Section) where
   shares-same : (sooner : ℕ → ℕ → Bool) (lots : List ℕ) (f g : ℕ → ℕ) → ((i : ℕ) → i < length ss → f (sectionOf ss i .settlement) ≡ g (sectionOf ss i .settlement)) → sharesInCodes sooner ss lots f ≡ sharesInCodes sooner ss lots g
   unfolding sharesInCodes
   shares-same sooner lots f g same =
-      listed-same (length ss) _ _ (λ i h. ap (λ (w : ℕ). share (λ (j : ℕ). eqb (sectionOf ss j .settlement) (sectionOf ss i .settlement) and earlier sooner ss lots j i) lots w i) (same i h))
+      listed-same (length ss) _ _ (λ i h. ap (λ (w : ℕ). share (λ (j : ℕ). eqb (sectionOf ss j .settlement) (sectionOf ss i .settlement) and earlier sooner (lowerSectionCode ss) lots j i) lots w i) (same i h))
 
   module _ (told : Told ss) where
     -- steps 2 and 4: a code wants the size of a number, and the need is all sizes
-    pub taken-sizes : (larger : Bool) (lots : List ℕ) (zs : List ℤ) → length lots ≡ length ss → taken ss (inOrder (sooner larger) ss lots) lots (map natAbs zs) (total (map natAbs zs)) ≡ sharesInCodes (sooner larger) ss lots (λ (c : ℕ). natAbs (entryℤ zs c))
+    pub taken-sizes : (larger : Bool) (lots : List ℕ) (zs : List ℤ) → length lots ≡ length ss → taken ss (inOrder (sooner larger) (lowerSectionCode ss) lots (length ss)) lots (map natAbs zs) (total (map natAbs zs)) ≡ sharesInCodes (sooner larger) ss lots (λ (c : ℕ). natAbs (entryℤ zs c))
     taken-sizes larger lots zs long =
         taken-all ss told larger lots long (map natAbs zs) (total (map natAbs zs)) (omega arith)
         ∙ shares-same (sooner larger) lots _ _ (λ i h. List·getD-map natAbs zs (sectionOf ss i .settlement) (pos 0))
@@ -249,10 +249,10 @@ module _ (ss : List Section) where
     -- step 3
     pub taken-across : ((i : ℕ) → i < length ss → sectionOf ss i .settlement < 64) → (d : ℤ) (left : List ℕ)
         → let lots = chosen ss (λ (s : Section). opposed (positionOf s) d) left in
-        taken ss (inOrder ltb ss lots) lots (codeCaps ss d left) (natAbs d) ≡ givenAcross ss d left
+        taken ss (inOrder ltb (lowerSectionCode ss) lots (length ss)) lots (codeCaps ss d left) (natAbs d) ≡ givenAcross ss d left
     unfolding givenAcross
     taken-across codes d left =
         let lots = chosen ss (λ (s : Section). opposed (positionOf s) d) left in
         taken-shares ss told false lots (listed-length (length ss) _) (codeCaps ss d left) (natAbs d)
-        ∙ ap (λ (allowed : List ℕ). listed (length ss) (λ (i : ℕ). share (λ (j : ℕ). earlier ltb ss lots j i) allowed (natAbs d) i))
+        ∙ ap (λ (allowed : List ℕ). listed (length ss) (λ (i : ℕ). share (λ (j : ℕ). earlier ltb (lowerSectionCode ss) lots j i) allowed (natAbs d) i))
         (shares-same ltb lots _ _ (λ i h. listed-at 64 (codeCap ss d left) (sectionOf ss i .settlement) 0 (codes i h)))

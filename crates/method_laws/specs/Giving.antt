@@ -14,8 +14,8 @@ abbrev pub onSide : Bool → ℤ → ℤ → Bool
 onSide same = cond same agreed opposed
 
 -- the numbers of all sections in an order
-unfoldable pub inOrder : (ℕ → ℕ → Bool) → List Section → List ℕ → List ℕ
-inOrder sooner ss lots = ordered (earlier sooner ss lots) (counted 0 (length ss))
+unfoldable pub inOrder : (ℕ → ℕ → Bool) → (ℕ → ℕ → Bool) → List ℕ → ℕ → List ℕ
+inOrder sooner lower lots n = ordered (earlier sooner lower lots) (counted 0 n)
 
 -- sections in an order give what they have, while their code's cap and the whole need last; `done` is what was given before
 unfoldable pub takenFrom : List Section → List ℕ → List ℕ → List ℕ → ℕ → List ℕ → List ℕ

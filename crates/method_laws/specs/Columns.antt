@@ -1,0 +1,35 @@
+-- What the method's code reads of the sections held and of the notices filed: columns, a list of numbers each. Contracts speak of every list of sections, or of
+-- notices, that has these columns.
+use Rattle.rules.specs.Words.{ℕ, _<_, _≡_, Bool, List, map, length, ltb, ℤ, natAbs, entry}
+use Rattle.rules.specs.declared.book.{Section.Section, Notice.Notice}
+use Rattle.rules.specs.Book.{positionOf}
+use Rattle.rules.specs.Expiry.{lowerSectionCode}
+use Rattle.rules.specs.Expiry.Passes.{sellersIn, elevatorsIn}
+
+-- of the sections: settlement codes and positions
+abbrev pub settlementsOf : List Section → List ℕ
+settlementsOf = map (λ (s : Section). s .settlement)
+
+abbrev pub positionsOf : List Section → List ℤ
+positionsOf = map positionOf
+
+-- and keys, numbers that tell which of two section codes is lower
+abbrev pub byKey : List ℕ → ℕ → ℕ → Bool
+byKey keys i j = ltb (entry keys i) (entry keys j)
+
+-- of the notices: sellers and elevators (`sellersIn`, `elevatorsIn`), and lots
+abbrev pub noticeLotsIn : List Notice → List ℕ
+noticeLotsIn = map (λ (n : Notice). natAbs (n .lots .0))
+
+-- the sections have these columns
+pub record Columns (ss : List Section) (codes : List ℕ) (positions : List ℤ) (keys : List ℕ) : Type 0 where
+  pub codes-are : codes ≡ settlementsOf ss
+  pub positions-are : positions ≡ positionsOf ss
+  pub keys-lower : (i j : ℕ) → i < length ss → j < length ss → lowerSectionCode ss i j ≡ byKey keys i j
+  pub keys-apart : (i j : ℕ) → i < length ss → j < length ss → entry keys i ≡ entry keys j → i ≡ j
+
+-- the notices have these columns
+pub record Filed (ns : List Notice) (sellers stands lots : List ℕ) : Type 0 where
+  pub sellers-are : sellers ≡ sellersIn ns
+  pub stands-are : stands ≡ elevatorsIn ns
+  pub lots-are : lots ≡ noticeLotsIn ns
