@@ -1,55 +1,31 @@
 // What is drawn of the notices at an elevator.
-ghost use Rattle.rules.specs.Words.{_≡_, true, ℕ, _≤_, _<_, length, entry, total};
-ghost use Rattle.rules.specs.Book.{good, filedNotices, noticeOf};
+ghost use Rattle.rules.specs.Words.{ℕ, _≡_, _≤_, _<_, length, replicate, entry};
 ghost use Rattle.rules.specs.Expiry.Passes;
-use rules::book::Book;
 
-// What is drawn of notice k if it stands at the elevator, else 0.
-pub fn offer(b: Book, drawn: &[u64], elevator: usize, k: usize) -> u64
-    requires { ⌜ (good b ≡ true) × (length (now drawn) ≡ b .filed) × (k < b .filed) ⌝ }
-    ensures { λ r. ⌜ r ≡ entry (Passes.offers (filedNotices b) (now (drawn .entry)) elevator) k ⌝ }
+// What is drawn of notice k if it stands at the elevator, else 0 (01, Expiry, 6.3).
+pub fn offer(stands: &[u8], drawn: &[u64], elevator: u8, k: usize) -> u64
+    requires { ⌜ (length (now drawn) ≡ length (now stands)) × (k < length (now stands)) ⌝ }
+    ensures { λ r. ⌜ r ≡ entry (Passes.offers (now (stands .entry)) (now (drawn .entry)) elevator) k ⌝ }
 {
-    let n = b.notices[k];
-    let stands = n.elevator as usize;
-    if stands == elevator {
+    if stands[k] == elevator {
         return drawn[k];
     }
     0
 }
 
-// The section that filed notice k.
-pub fn seller(b: Book, k: usize) -> u8
-    requires { ⌜ (good b ≡ true) × (k < b .filed) ⌝ }
-    ensures { λ r. ⌜ r ≡ noticeOf (filedNotices b) k .section ⌝ }
+// The sum at each elevator, in one walk over the notices; `out` is noughts at first (01, Expiry, 6.2).
+pub fn elevator_lots(stands: &[u8], drawn: &[u64], out: &mut [u64])
+    requires { ⌜ (length (now drawn) ≡ length (now stands)) × (length (now stands) ≤ 256) × (now out ≡ replicate 32 0) ⌝ }
+    requires { ⌜ ((k : ℕ) → k < length (now stands) → entry (now stands) k < 32) × ((k : ℕ) → entry (now drawn) k ≤ 1_000_000) ⌝ }
+    ensures { λ _. ⌜ now (out .exit) ≡ Passes.elevatorLots (now (stands .entry)) (now (drawn .entry)) ⌝ }
 {
-    let n = b.notices[k];
-    n.section
-}
-
-// The sum at an elevator.
-fn offered(b: Book, drawn: &[u64], elevator: usize) -> u64
-    requires { ⌜ (good b ≡ true) × (length (now drawn) ≡ b .filed) × ((k : ℕ) → entry (now drawn) k ≤ 1_000_000) ⌝ }
-    ensures { λ r. ⌜ r ≡ total (Passes.offers (filedNotices b) (now (drawn .entry)) elevator) ⌝ }
-{
-    let filed = b.filed;
-    let mut sum = 0;
+    let all = stands.len();
     let mut k = 0;
-    while k < filed {
-        sum += offer(b, drawn, elevator, k);
+    while k < all {
+        let e = stands[k] as usize;
+        let own = drawn[k];
+        let stands_there = out[e];
+        out[e] = stands_there + own;
         k += 1;
-    }
-    sum
-}
-
-// The sum at each elevator.
-pub fn elevator_lots(b: Book, drawn: &[u64], out: &mut [u64])
-    requires { ⌜ (good b ≡ true) × (length (now drawn) ≡ b .filed) × ((k : ℕ) → entry (now drawn) k ≤ 1_000_000) ⌝ }
-    requires { ⌜ length (now out) ≡ 32 ⌝ }
-    ensures { λ _. ⌜ now (out .exit) ≡ Passes.elevatorLots (filedNotices b) (now (drawn .entry)) ⌝ }
-{
-    let mut e = 0;
-    while e < 32 {
-        out[e] = offered(b, drawn, e);
-        e += 1;
     }
 }

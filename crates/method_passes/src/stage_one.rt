@@ -1,11 +1,13 @@
 // Stage one: pairs of buyers and elevators.
-ghost use Rattle.rules.specs.Words.{_≡_, true, ℕ, _+_, _≤_, _<_, length, entry};
-ghost use Rattle.rules.specs.Book.{good, heldSections, filedNotices};
+ghost use Rattle.rules.specs.Words.{ℕ, _≡_, _+_, _≤_, _<_, length, entry};
 ghost use Rattle.rules.specs.Expiry.Passes;
-ghost use Rattle.method_passes.specs.Pairs.{pairsIn};
-use crate::largest;
-use method_giving::taken;
-use rules::book::Book;
+ghost use Rattle.method_laws.specs.Columns.{byKey};
+ghost use Rattle.method_passes.specs.Formed.{pairsIn, Known};
+use crate::fullest;
+use crate::pairs;
+use crate::pairs::Pairs;
+use rules::limits::ELEVATORS;
+use value::lots;
 
 // Entry i of a list, 0 past its end.
 fn read(list: &[u64], i: usize) -> u64
@@ -17,38 +19,26 @@ fn read(list: &[u64], i: usize) -> u64
     0
 }
 
-// The pairs that buyers' lots and elevators' lots form, written from the start of three lists (who takes, where it is stored, how much); how many there are.
-pub fn form_pairs(
-    b: Book,
-    buyers: &mut [u64],
-    elevators: &mut [u64],
-    takers: &mut [usize],
-    stores: &mut [usize],
-    amounts: &mut [u64],
-) -> usize
-    requires { ⌜ (good b ≡ true) × (length (now buyers) ≡ b .held) × (length (now elevators) ≡ 32) ⌝ }
-    requires { ⌜ (length (now takers) ≡ 160) × (length (now stores) ≡ 160) × (length (now amounts) ≡ 160) ⌝ }
-    ensures { λ r. ⌜ pairsIn (now (takers .exit)) (now (stores .exit)) (now (amounts .exit)) r ≡ Passes.stageOne (heldSections b) (b .held + 32) (now (buyers .entry)) (now (elevators .entry)) ⌝ }
-    ensures { λ r. ⌜ r ≤ 160 ⌝ }
-    ensures { λ r. ⌜ ((k : ℕ) → k < r → entry (now (takers .exit)) k < b .held) × ((k : ℕ) → k < r → entry (now (stores .exit)) k < 32) ⌝ }
+// The pairs that buyers' lots and elevators' lots form (01, Expiry, 6.2).
+pub fn form_pairs(keys: &[u64], buyers: &mut [u64], stocks: &mut [u64]) -> Pairs
+    requires { ⌜ (length (now keys) ≤ 128) × (length (now buyers) ≡ length (now keys)) × (length (now stocks) ≡ 32) ⌝ }
+    ensures { λ r. ⌜ pairsIn r ≡ Passes.stageOne (byKey (now (keys .entry))) (length (now (keys .entry)) + 32) (now (buyers .entry)) (now (stocks .entry)) ⌝ }
+    ensures { λ r. ⌜ Known r (length (now (keys .entry))) ⌝ }
 {
-    let turns = b.held + 32;
-    let mut count = 0;
-    while count < turns {
-        let buyer = largest::buyer(b, buyers);
-        let elevator = largest::elevator(elevators);
+    let turns = keys.len() + ELEVATORS;
+    let mut ps = pairs::none();
+    while ps.count < turns {
+        let buyer = fullest::buyer(keys, buyers);
+        let elevator = fullest::elevator(stocks);
         let has = read(buyers, buyer);
-        let stands = read(elevators, elevator);
-        let amount = taken::smaller(has, stands);
+        let stands = read(stocks, elevator);
+        let amount = lots::smaller(has, stands);
         if amount == 0 {
             break;
         }
-        takers[count] = buyer;
-        stores[count] = elevator;
-        amounts[count] = amount;
+        ps = pairs::with_pair(ps, buyer as u8, elevator as u8, amount);
         buyers[buyer] = has - amount;
-        elevators[elevator] = stands - amount;
-        count += 1;
+        stocks[elevator] = stands - amount;
     }
-    count
+    ps
 }

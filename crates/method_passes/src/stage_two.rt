@@ -1,12 +1,15 @@
 // Stage two: lines of pairs and notices.
-ghost use Rattle.rules.specs.Words.{_≡_, true, cond, _||_, map, ℕ, _+_, _≤_, _<_, eqb, length, entry, put};
-ghost use Rattle.rules.specs.Book.{good, heldSections, filedNotices, noticeOf};
+ghost use Rattle.rules.specs.Words.{ℕ, _≡_, _+_, _≤_, _<_, min, cond, _||_, _++_, eqb, length, entry};
 ghost use Rattle.rules.specs.Expiry.Passes;
-ghost use Rattle.method_passes.specs.Pairs.{pairsIn, linesIn};
-use crate::largest;
+ghost use Rattle.method_laws.specs.Columns.{byKey};
+ghost use Rattle.method_passes.specs.Formed.{pairsIn, linesIn, Known, Sold};
+use crate::fullest;
 use crate::offers;
-use method_giving::taken;
-use rules::book::Book;
+use crate::pairs;
+use crate::pairs::Pairs;
+use crate::register;
+use crate::register::Register;
+use value::lots;
 
 // How often lines are formed at most: never where there is no pair or no notice.
 fn most_turns(count: usize, filed: usize) -> usize
@@ -19,53 +22,56 @@ fn most_turns(count: usize, filed: usize) -> usize
     count + filed
 }
 
-// The lines that pairs and what is drawn of the notices form, written into the four register lists from a place on; how many there are.
-// The pairs stand in three lists: who takes, where it is stored, how much.
-pub fn form_lines(
-    b: Book,
-    count: usize,
-    takers: &[usize],
-    stores: &[usize],
-    amounts: &mut [u64],
-    drawn: &mut [u64],
-    from: usize,
-    buyers: &mut [u8],
-    elevators: &mut [u8],
-    sellers: &mut [u8],
-    lots: &mut [u32],
-) -> usize
-    requires { ⌜ (good b ≡ true) × (count ≤ 160) × (length (now takers) ≡ 160) × (length (now stores) ≡ 160) × (length (now amounts) ≡ 160) × (length (now drawn) ≡ b .filed) ⌝ }
-    requires { ⌜ ((k : ℕ) → k < count → entry (now takers) k < b .held) × ((k : ℕ) → k < count → entry (now stores) k < 32) × ((k : ℕ) → entry (now drawn) k ≤ 1_000_000) ⌝ }
-    requires { ⌜ (let most = from + length (linesIn b count (now takers) (now stores) (now amounts) (now drawn)) in (most ≤ length (now buyers)) × (most ≤ length (now elevators)) × (most ≤ length (now sellers)) × (most ≤ length (now lots))) ⌝ }
-    ensures { λ r. ⌜ r ≡ length (linesIn b count (now (takers .entry)) (now (stores .entry)) (now (amounts .entry)) (now (drawn .entry))) ⌝ }
-    ensures { λ _. ⌜ now (buyers .exit) ≡ put (now (buyers .entry)) from (map (λ (l : Passes.Line). l .buyer) (linesIn b count (now (takers .entry)) (now (stores .entry)) (now (amounts .entry)) (now (drawn .entry)))) ⌝ }
-    ensures { λ _. ⌜ now (elevators .exit) ≡ put (now (elevators .entry)) from (map (λ (l : Passes.Line). l .elevator) (linesIn b count (now (takers .entry)) (now (stores .entry)) (now (amounts .entry)) (now (drawn .entry)))) ⌝ }
-    ensures { λ _. ⌜ now (sellers .exit) ≡ put (now (sellers .entry)) from (map (λ (l : Passes.Line). l .seller) (linesIn b count (now (takers .entry)) (now (stores .entry)) (now (amounts .entry)) (now (drawn .entry)))) ⌝ }
-    ensures { λ _. ⌜ now (lots .exit) ≡ put (now (lots .entry)) from (map (λ (l : Passes.Line). l .lots) (linesIn b count (now (takers .entry)) (now (stores .entry)) (now (amounts .entry)) (now (drawn .entry)))) ⌝ }
+// Which pair, which notice, and how much.
+struct Choice {
+    pair: usize,
+    notice: usize,
+    lots: u64,
+}
+
+// The next line, with no lots where none is left to form (01, Expiry, 6.3).
+fn choose(keys: &[u64], ps: Pairs, sellers: &[u8], stands: &[u8], drawn: &[u64]) -> Choice
+    requires { ⌜ Known ps (length (now keys)) × (0 < ps .count) ⌝ }
+    requires { ⌜ Sold (now sellers) (now stands) (now drawn) (length (now keys)) × (0 < length (now stands)) ⌝ }
+    ensures { λ r. ⌜ r .pair ≡ Passes.fullestPair (byKey (now (keys .entry))) (pairsIn ps) ⌝ }
+    ensures { λ r. ⌜ r .notice ≡ Passes.fullestNotice (byKey (now (keys .entry))) (now (sellers .entry)) (now (stands .entry)) (now (drawn .entry)) (entry (ps .elevators) (r .pair)) ⌝ }
+    ensures { λ r. ⌜ r .lots ≡ min (entry (ps .lots) (r .pair)) (entry (Passes.offers (now (stands .entry)) (now (drawn .entry)) (entry (ps .elevators) (r .pair))) (r .notice)) ⌝ }
 {
-    let turns = most_turns(count, b.filed);
-    let mut formed = 0;
-    while formed < turns {
-        let p = largest::pair(b, takers, stores, amounts, count);
-        let buyer = takers[p];
-        let elevator = stores[p];
-        let has = amounts[p];
-        let k = largest::notice(b, drawn, elevator);
-        let offered = offers::offer(b, drawn, elevator, k);
-        let amount = taken::smaller(has, offered);
-        if amount == 0 {
+    let pair = fullest::pair(keys, ps);
+    let elevator = ps.elevators[pair];
+    let notice = fullest::notice(keys, sellers, stands, drawn, elevator);
+    let has = ps.lots[pair];
+    let offered = offers::offer(stands, drawn, elevator, notice);
+    let lots = lots::smaller(has, offered);
+    Choice { pair: pair, notice: notice, lots: lots }
+}
+
+// The lines that pairs and what is drawn of the notices form, after those that the register has (01, Expiry, 6.3).
+pub fn form_lines(keys: &[u64], formed: Pairs, sellers: &[u8], stands: &[u8], drawn: &mut [u64], before: Register) -> Register
+    requires { ⌜ Known formed (length (now keys)) × Sold (now sellers) (now stands) (now drawn) (length (now keys)) ⌝ }
+    requires { ⌜ before .count + length (Passes.stageTwo (byKey (now keys)) (now sellers) (now stands) (formed .count + length (now stands)) (pairsIn formed) (now drawn)) ≤ 382 ⌝ }
+    ensures { λ r. ⌜ linesIn r ≡ linesIn before ++ Passes.stageTwo (byKey (now (keys .entry))) (now (sellers .entry)) (now (stands .entry)) (formed .count + length (now (stands .entry))) (pairsIn formed) (now (drawn .entry)) ⌝ }
+{
+    let turns = most_turns(formed.count, stands.len());
+    let mut ps = formed;
+    let mut g = before;
+    let mut turn = 0;
+    while turn < turns {
+        let next = choose(keys, ps, sellers, stands, drawn);
+        let lots = next.lots;
+        if lots == 0 {
             break;
         }
-        let seller = offers::seller(b, k);
-        let at = from + formed;
-        buyers[at] = buyer as u8;
-        elevators[at] = elevator as u8;
-        sellers[at] = seller;
-        lots[at] = amount as u32;
-        amounts[p] = has - amount;
+        let p = next.pair;
+        let k = next.notice;
+        let buyer = ps.buyers[p];
+        let elevator = ps.elevators[p];
+        g = register::with_line(g, buyer, elevator, sellers[k], lots as u32);
+        let has = ps.lots[p];
+        ps = pairs::with_left(ps, p, has - lots);
         let left = drawn[k];
-        drawn[k] = left - amount;
-        formed += 1;
+        drawn[k] = left - lots;
+        turn += 1;
     }
-    formed
+    g
 }
