@@ -9,7 +9,7 @@ use Rattle.numbers.proofs.Ranges.{chosen-yes, chosen-no, sum-nothing, sum-chang
 use Rattle.numbers.proofs.Orders.{ordered-total, times, Once, first-once, first-below, rest-once, ordered-once}
 use Rattle.numbers.proofs.Tests.{and-left, and-right, both, below-or-not, same-or-not}
 use Rattle.rules.specs.Book.{sectionOf}
-use Rattle.rules.specs.Expiry.{takenFrom, taken, inOrder}
+use Rattle.method_laws.specs.Giving.{inOrder, takenFrom, taken}
 
 -- a section that gives nothing does not give in part
 not-in-part : (t u : Bool) → one (t and ltb 0 0 and u) ≡ 0

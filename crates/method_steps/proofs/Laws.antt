@@ -29,15 +29,6 @@ noughts-front zero m h = refl
 noughts-front (suc n) zero h = absurd (not-suc-le-zero h)
 noughts-front (suc n) (suc m) h = ap (λ (ns : List ℕ). 0 ∷ ns) (noughts-front n m (le-of-suc-le-suc h))
 
--- lists that hold the same at each number
-counted-same : {A : Type 0} (f g : ℕ → A) (a n : ℕ) → ((i : ℕ) → i < a + n → f i ≡ g i) → map f (counted a n) ≡ map g (counted a n)
-unfolding counted
-counted-same f g a zero h = refl
-counted-same f g a (suc n) h = ap₂ _∷_ (h a (omega arith)) (counted-same f g (suc a) n (λ i l. h i (omega (arith, l))))
-
-pub listed-same : {A : Type 0} (n : ℕ) (f g : ℕ → A) → ((i : ℕ) → i < n → f i ≡ g i) → listed n f ≡ listed n g
-listed-same n f g h = counted-same f g 0 n (λ i l. h i (omega (arith, l)))
-
 -- the front of a list that was lent, filled and given back
 module _ (n : ℕ) (whole front : List ℕ) (long : length front ≡ n) where
   pub front-is : take n (front ++ drop n whole) ≡ front
