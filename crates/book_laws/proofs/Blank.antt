@@ -1,4 +1,4 @@
--- "Places beyond those held are noughts": the test of a blank place says that it is one.
+-- The test of a blank place says that it is one (01, Book, 2).
 use Rattle.numbers.proofs.Words.{ℕ, _+_, _-_, _≤_, _<_, arith, _≡_, sym, ap, _∙_, true, not, ⊎-elim, [], eqb, length, drop, length-drop, List·getD-eq-default, getD-drop, eqb-true, not-true, within, same}
 use Rattle.rules.specs.declared.book.{Book.Book, Section.Section}
 use Rattle.numbers.proofs.Tests.{both, below-or-not}

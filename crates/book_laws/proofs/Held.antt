@@ -42,7 +42,7 @@ held-basis b book i h = omega (arith, held-good b book i h .basis, book .trades)
 pub held-place : (b : Book) → Good b → (i : ℕ) → i < b .held → i < length (b .sections)
 held-place b book i h = omega (arith, book .held, book .section-places)
 
--- the section codes of a good book tell its sections apart
+-- the section codes of a good book tell its sections apart (01, Book, 3)
 pub held-told : (b : Book) → Good b → Ranks (length (heldSections b)) (lowerSectionCode (heldSections b))
 held-told b book =
     let code : ℕ → List ℕ = λ (i : ℕ). sectionOf (heldSections b) i .code in

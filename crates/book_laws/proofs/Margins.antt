@@ -1,4 +1,4 @@
--- The margins of an accepted session sum to zero, because positions and bases do.
+-- The margins of an accepted session sum to zero, because positions and bases do (demand 3.1; 01, Book, 4).
 use Rattle.numbers.proofs.Words.{ℕ, _≡_, ap, ap₂, _∙_, map, ℤ, pos, _-ℤ_, _*ℤ_, zero-*ℤ, totalℤ}
 use Rattle.rules.specs.declared.book.{Book.Book, Section.Section}
 use Rattle.numbers.proofs.Sums.{total-product, total-difference}

@@ -1,5 +1,5 @@
 -- Demand 3, the one theorem over every list of calls.
-use Rattle.numbers.proofs.Words.{_≡_, refl, sym, ap, subst, _∙_, true, false, true≢false, List, [], _++_, flatMap, Every}
+use Rattle.numbers.proofs.Words.{_≡_, refl, sym, ap, subst, _∙_, false, true≢false, List, [], _++_, flatMap, Every}
 use Rattle.rules.specs.declared.book.{Book.Book}
 use Rattle.rules.specs.Book.{opened}
 use Rattle.rules.specs.Expiry.Call.{expiryAnswer, afterExpiry}
@@ -24,17 +24,17 @@ record Ends (b : Book) (calls : List Accepted) (c : Call) (new : Book) : Type 0 
 
 ends : (b : Book) (past : List Accepted) → Reached b past → (c : Call) → answerOf b c .number ≡ 0 → Ends b (more past b c) c (answerOf b c .book)
 unfolding registerOf answerOf expiryAnswer afterExpiry Every
-ends b past was (section settlement code participant seller) e = record { delivered = tt; none = λ open. refl }
-ends b past was (trade buyer seller price lots) e = record { delivered = tt; none = λ open. refl }
-ends b past was (session price list) e = record { delivered = tt; none = λ open. refl }
-ends b past was (condition i met) e = record { delivered = tt; none = λ open. refl }
-ends b past was (notice i elevator lots) e = record { delivered = tt; none = λ open. refl }
+ends b past was (section settlement code participant seller) e = record { delivered = tt; none = λ not-yet. refl }
+ends b past was (trade buyer seller price lots) e = record { delivered = tt; none = λ not-yet. refl }
+ends b past was (session price list) e = record { delivered = tt; none = λ not-yet. refl }
+ends b past was (condition i met) e = record { delivered = tt; none = λ not-yet. refl }
+ends b past was (notice i elevator lots) e = record { delivered = tt; none = λ not-yet. refl }
 ends b past was (expiry ls) e =
     let after = written _ _ (afterExpiry b) b refl e in
     let then : Reached (afterExpiry b) (more past b (expiry ls)) = subst (λ (new : Book). Reached new (more past b (expiry ls))) (sym after) (reached-next b past was (expiry ls) e) in
     record {
       delivered = (delivers b ls (trades (more past b (expiry ls))) (was .book) e (then .nets), tt);
-      none = λ open. absurd (true≢false (ap (λ (new : Book). new .expired) after ∙ open));
+      none = λ not-yet. absurd (true≢false (ap (λ (new : Book). new .expired) after ∙ not-yet));
     }
 
 next : (b : Book) (past : List Accepted) → Stands b past → (c : Call) → answerOf b c .number ≡ 0 → Stands (answerOf b c .book) (more past b c)
@@ -44,12 +44,12 @@ next b past was c e =
     record {
       reached = reached-next b past (was .reached) c e;
       delivered = subst (Every (Delivered (trades (more past b c)))) (sym last) (end .delivered);
-      none = λ open. last ∙ end .none open;
+      none = λ not-yet. last ∙ end .none not-yet;
     }
 
 -- for every list of calls from the book of an accepted opening (demand 3; 01, Calls, 1 and 2)
 pub demand-three : DemandThree
 unfolding DemandThree flatMap Every
 demand-three lot w r e calls =
-    let all = run Stands next calls (opened lot w r) [] (record { reached = opened-reached lot w r e; delivered = tt; none = λ open. refl }) in
+    let all = run Stands next calls (opened lot w r) [] (record { reached = opened-reached lot w r e; delivered = tt; none = λ not-yet. refl }) in
     record { sessions-even = all .reached .even; delivered = all .delivered; telescoped = all .reached .settled }

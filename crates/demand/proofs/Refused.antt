@@ -7,7 +7,7 @@ use Rattle.rules.specs.History.{Call, section, trade, session, condition, notic
 use Rattle.book_laws.proofs.Accepted as accepted
 use Rattle.book_laws.proofs.Answers.{kept, first-none}
 
--- (01, Book, 7)
+-- what a refused call hands out (01, Book, 7; 01, Calls, 3)
 pub same-book : (b : Book) (c : Call) → (answerOf b c .number ≡ 0 → ⊥) → answerOf b c .book ≡ b
 unfolding answerOf sectionAnswer tradeAnswer sessionAnswer conditionAnswer noticeAnswer expiryAnswer
 same-book b (section settlement code participant seller) refused = sym (kept _ _ _ b refl refused)

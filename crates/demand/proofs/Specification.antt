@@ -111,14 +111,14 @@ module _ (b : Book) (past : List Accepted) (was : Reached b past) (told : Specif
         ∙ sym (product-difference after (v .0) (s .value .0))
         ∙ ap (λ (z : ℤ). rise z (s .value) v) (sym (reached-next b past was c accepts .nets i))
 
-    -- an evening session ends the day
+    -- an evening session ends the day: from it on all lots are carried (001, 2.1.3)
     evening-ends : s .evening ≡ true → rise lots (s .value) v ≡ dayMargin calls i v
     unfolding dayMargin some flatMap gathered
     evening-ends e =
         let held : holds evening (record { book = b; call = c }) ≡ true = ap (some evening) one ∙ rw e refl in
         rw (up-to-held evening _ held past, since-held evening _ held past, value) (sym (+ℤ-idr (rise lots (s .value) v)))
 
-    -- after a day session its VM1 is taken off
+    -- after a day session its VM1 is taken off: VM2 = VM less VM1 (001, 2.1.3)
     day-ends : s .evening ≡ false → ((x : Kopecks) → marginOf x (sectionAt b i) ≡ dayMargin past i x) → rise lots (s .value) v ≡ specified Day calls i v
     unfolding specified marginOf worth net some gathered
     day-ends e was-told =

@@ -30,7 +30,7 @@ module _ (b : Book) (price : ℕ) (book : Good b) where
   pub session-rest : (i : ℕ) → b .held ≤ i → sectionAt (afterSession b price) i ≡ sectionAt b i
   session-rest i h = same-rest (afterSession b price .sections) (b .sections) (b .held) i (sectionOfNoughts []) (settled-rest b price book) h
 
-  -- the margin of section i stands at entry i
+  -- the margin of section i stands at entry i (01, Session, 3)
   pub margin-at : (i : ℕ) → i < b .held → getD (margins b price) i (pos 0) ≡ marginOf (valueAt b price) (sectionAt b i)
   unfolding margins
   margin-at i h = held-read (marginOf (valueAt b price)) b book i (pos 0) h
@@ -82,7 +82,7 @@ module _ (b : Book) (price : ℕ) (book : Good b) where
   unfolding settled
   session-met = session-read (λ (s : Section). s .met) (λ s. refl)
 
--- of the book itself only the session and the count of trades change
+-- of the book itself only the session and the count of trades change (01, Session, 2)
 module _ (b : Book) (price : ℕ) where
   pub session-terms : SameTerms (afterSession b price) b
   unfolding afterSession

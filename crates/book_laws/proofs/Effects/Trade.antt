@@ -85,7 +85,7 @@ module _ (b : Book) (buyer seller price lots : ℕ) where
   unfolding moved
   trade-met call i = ap (λ (s : Section). s .met) (trade-section call i)
 
-  -- of the book itself only the count of trades changes
+  -- of the book itself only the count of trades changes (01, Book, 1)
   pub trade-terms : SameTerms (traded b buyer seller price lots) b
   unfolding traded
   trade-terms = record { lot = refl; w = refl; r = refl; expired = refl }
