@@ -1,5 +1,5 @@
 -- One accepted call more: what it does to the trades, the sessions and the registers of a list of calls, and to the cut at the last session of a kind.
-use Rattle.numbers.proofs.Words.{_≡_, refl, Bool, true, false, cond, or-true, List, [], _∷_, _++_, some}
+use Rattle.numbers.proofs.Words.{_≡_, refl, ap, _∙_, Bool, true, false, cond, or-true, List, [], _∷_, _++_, some}
 use Rattle.rules.specs.declared.book.{Book.Book}
 use Rattle.numbers.proofs.Lists.{flatMap-last}
 use Rattle.rules.specs.History.{Call, Accepted, Session, tradeOf, sessionOf, registerOf, trades, sessions, registers, holds, upToLast, sinceLast, lastValue}
@@ -19,11 +19,14 @@ module _ (past : List Accepted) (b : Book) (c : Call) where
   registers-more = flatMap-last (λ (a : Accepted). registerOf (a .book) (a .call)) past _
 
 -- the value of the last session (01, Calls, 10)
-pub value-more : (ss : List Session) (s : Session) → lastValue (ss ++ (s ∷ [])) ≡ s .value
+value-last : (ss : List Session) (s : Session) → lastValue (ss ++ (s ∷ [])) ≡ s .value
 unfolding lastValue
-value-more [] s = refl
-value-more (t ∷ []) s = refl
-value-more (t ∷ u ∷ ss) s = value-more (u ∷ ss) s
+value-last [] s = refl
+value-last (t ∷ []) s = refl
+value-last (t ∷ u ∷ ss) s = value-last (u ∷ ss) s
+
+pub value-more : (past : List Accepted) (b : Book) (c : Call) (s : Session) → sessionOf b c ≡ s ∷ [] → lastValue (sessions (more past b c)) ≡ s .value
+value-more past b c s one = ap lastValue (sessions-more past b c ∙ ap (λ (ss : List Session). sessions past ++ ss) one) ∙ value-last (sessions past) s
 
 -- the cut at the last session of a kind (01, Calls, 10)
 module _ (kind : Session → Bool) (a : Accepted) where

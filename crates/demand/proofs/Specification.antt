@@ -1,5 +1,5 @@
 -- 001's margins: after any list of calls, position·V less basis is what 001 has for the day so far, less its VM1 where the last session was a day session.
-use Rattle.numbers.proofs.Words.{ℕ, arith, _≡_, refl, sym, ap, ap₂, subst, _∙_, true, false, cond, List, [], _∷_, _++_, flatMap, map, length, getD-take, ℤ, pos, negℤ, _+ℤ_, _-ℤ_, _*ℤ_, +ℤ-assoc, +ℤ-idl, +ℤ-idr, negℤ-+ℤ, zero-*ℤ, some, Every, entryℤ, gathered, totalℤ}
+use Rattle.numbers.proofs.Words.{ℕ, arith, _≡_, refl, sym, ap, ap₂, _∙_, true, false, cond, List, [], _∷_, flatMap, map, length, getD-take, ℤ, pos, negℤ, _+ℤ_, _-ℤ_, _*ℤ_, +ℤ-assoc, +ℤ-idl, +ℤ-idr, negℤ-+ℤ, zero-*ℤ, some, entryℤ, gathered, totalℤ}
 use Rattle.rules.specs.declared.{book.Book.Book, book.LastSession.LastSession, units.Kopecks.Kopecks}
 use Rattle.rules.specs.declared.book.LastSession.the-variants.{None, Day, Evening}
 use Rattle.numbers.proofs.Sums.{wholes, exchange, total-joined, total-product, total-difference}
@@ -11,8 +11,8 @@ use Rattle.rules.specs.Expiry.Call.{dayLast}
 use Rattle.rules.specs.History.{Call, answerOf, bookAfter, Accepted, Trade, Session, tradeOf, sessionOf, trades, sessions, holds, upToLast, sinceLast, lastValue, anySession, evening, sided, net, entered, rise, dayMargin, specified, MarginsSpecified}
 use Rattle.book_laws.proofs.Accepted as judged
 use Rattle.book_laws.proofs.Effects.Session.{margin-at}
-use Rattle.demand.proofs.Cut.{more, trades-more, sessions-more, value-more, up-to-held, up-to-other, since-held, since-other}
-use Rattle.demand.proofs.Steps.{paidTo, Effect, effect, margins-written}
+use Rattle.demand.proofs.Cut.{more, trades-more, value-more, up-to-held, up-to-other, since-held, since-other}
+use Rattle.demand.proofs.Steps.{paidTo, Effect, settled-basis, effect, margins-written}
 use Rattle.demand.proofs.State.{Brings, paying, other, brings, Reached, opened-reached, reached-next}
 use Rattle.demand.proofs.Run.{run}
 
@@ -99,15 +99,11 @@ module _ (b : Book) (past : List Accepted) (was : Reached b past) (told : Specif
     abbrev lots : ℤ
     lots = net (trades calls) i
 
-    value : lastValue (sessions calls) ≡ s .value
-    value = ap lastValue (sessions-more past b c ∙ ap (λ (ss : List Session). sessions past ++ ss) one) ∙ value-more (sessions past) s
-
     margin-since : marginOf v (sectionAt new i) ≡ rise lots (s .value) v
-    unfolding marginOf worth Every
+    unfolding marginOf worth
     margin-since =
         let after = positionOf (sectionAt new i) in
-        let basis = subst (Every (λ (t : Session). (j : ℕ) → basisOf (sectionAt new j) ≡ worth (sectionAt new j .position) (t .value) .0)) one (done .settles) .0 i in
-        ap (λ (z : ℤ). after *ℤ v .0 -ℤ z) basis
+        ap (λ (z : ℤ). after *ℤ v .0 -ℤ z) (settled-basis done s one i)
         ∙ sym (product-difference after (v .0) (s .value .0))
         ∙ ap (λ (z : ℤ). rise z (s .value) v) (sym (reached-next b past was c accepts .nets i))
 
@@ -116,7 +112,7 @@ module _ (b : Book) (past : List Accepted) (was : Reached b past) (told : Specif
     unfolding dayMargin some flatMap gathered
     evening-ends e =
         let held : holds evening (record { book = b; call = c }) ≡ true = ap (some evening) one ∙ rw e refl in
-        rw (up-to-held evening _ held past, since-held evening _ held past, value) (sym (+ℤ-idr (rise lots (s .value) v)))
+        rw (up-to-held evening _ held past, since-held evening _ held past, value-more past b c s one) (sym (+ℤ-idr (rise lots (s .value) v)))
 
     -- after a day session its VM1 is taken off: VM2 = VM less VM1 (001, 2.1.3)
     day-ends : s .evening ≡ false → ((x : Kopecks) → marginOf x (sectionAt b i) ≡ dayMargin past i x) → rise lots (s .value) v ≡ specified Day calls i v
@@ -130,7 +126,7 @@ module _ (b : Book) (past : List Accepted) (was : Reached b past) (told : Specif
         ap (λ (z : ℤ). rise z (s .value) v) same
         ∙ product-difference position (v .0) (s .value .0)
         ∙ sym (cancelled (position *ℤ v .0) (position *ℤ s .value .0) basis)
-        ∙ sym (ap₂ _-ℤ_ (each v) (ap (λ (upTo : List Accepted). dayMargin upTo i (lastValue (sessions upTo))) (up-to-held anySession _ (ap (some anySession) one) past) ∙ ap (dayMargin calls i) value ∙ each (s .value)))
+        ∙ sym (ap₂ _-ℤ_ (each v) (ap (λ (upTo : List Accepted). dayMargin upTo i (lastValue (sessions upTo))) (up-to-held anySession _ (ap (some anySession) one) past) ∙ ap (dayMargin calls i) (value-more past b c s one) ∙ each (s .value)))
 
     turned : (last : LastSession) → s .evening ≡ dayLast last → ((x : Kopecks) → marginOf x (sectionAt b i) ≡ specified last past i x) → rise lots (s .value) v ≡ specified (following last) calls i v
     unfolding specified

@@ -1,5 +1,5 @@
 -- Where a list of calls stands: what its accepted calls say of the book that they leave. An opened book has no trade and no margin, and each accepted call takes this on.
-use Rattle.numbers.proofs.Words.{ℕ, zero-le, _≡_, refl, sym, ap, ap₂, subst, _∙_, true, List, [], _∷_, _++_, append-nil, flatMap, ℤ, pos, _+ℤ_, _-ℤ_, +ℤ-negℤ-cancel, some, Every, gathered, totalℤ}
+use Rattle.numbers.proofs.Words.{ℕ, zero-le, _≡_, refl, sym, ap, ap₂, _∙_, true, List, [], _∷_, _++_, append-nil, flatMap, ℤ, pos, _+ℤ_, _-ℤ_, +ℤ-negℤ-cancel, some, Every, gathered, totalℤ}
 use Rattle.rules.specs.declared.{book.Book.Book}
 use Rattle.numbers.proofs.Sums.{wholes, exchange, total-joined}
 use Rattle.rules.specs.Units.{worth}
@@ -11,7 +11,7 @@ use Rattle.book_laws.proofs.Good.{facts}
 use Rattle.book_laws.proofs.Blank.{rest-read}
 use Rattle.book_laws.proofs.Kept.Opening.{opening-kept}
 use Rattle.demand.proofs.Cut.{more, trades-more, sessions-more, value-more, up-to-held, up-to-other}
-use Rattle.demand.proofs.Steps.{paidTo, Effect, effect}
+use Rattle.demand.proofs.Steps.{paidTo, Effect, settled-basis, effect}
 
 -- a call brings one session and no trade, or no session
 pub data Brings (b : Book) (c : Call) : Type 0 where
@@ -88,16 +88,14 @@ module _ (b : Book) (past : List Accepted) (was : Reached b past) (c : Call) (ac
       ∙ sym (done .bases i)
 
   settled : (i : ℕ) → Brings b c → paidTo i (sessions calls) ≡ owed calls i
-  unfolding some Every
+  unfolding some
   settled i (other none) =
       let same : sessions calls ≡ sessions past = sessions-more past b c ∙ ap (λ (ss : List Session). sessions past ++ ss) none ∙ append-nil (sessions past) in
       rw (same, up-to-other anySession _ (ap (some anySession) none) past) (was .settled i)
   settled i (paying s one none kind) =
-      let basis = subst (Every (λ (t : Session). (j : ℕ) → basisOf (sectionAt new j) ≡ worth (sectionAt new j .position) (t .value) .0)) one (done .settles) .0 i in
-      let value : lastValue (sessions calls) ≡ s .value = ap lastValue (sessions-more past b c ∙ ap (λ (ss : List Session). sessions past ++ ss) one) ∙ value-more (sessions past) s in
-      rw (up-to-held anySession _ (ap (some anySession) one) past, value)
+      rw (up-to-held anySession _ (ap (some anySession) one) past, value-more past b c s one)
       (sym (+ℤ-negℤ-cancel (paidTo i (sessions calls)) (entered (trades calls) i))
-      ∙ ap (λ (z : ℤ). z -ℤ entered (trades calls) i) (bases i ∙ basis ∙ ap (λ (z : ℤ). worth (record { 0 = z }) (s .value) .0) (sym (nets i))))
+      ∙ ap (λ (z : ℤ). z -ℤ entered (trades calls) i) (bases i ∙ settled-basis done s one i ∙ ap (λ (z : ℤ). worth (record { 0 = z }) (s .value) .0) (sym (nets i))))
 
   pub reached-next : Reached new calls
   reached-next =

@@ -28,6 +28,11 @@ pub record Effect (b new : Book) (ts : List Trade) (ss : List Session) : Type 0 
   pub even : Every (λ (s : Session). totalℤ (s .margins) ≡ pos 0) ss
   pub settles : Every (λ (s : Session). (i : ℕ) → basisOf (sectionAt new i) ≡ worth (sectionAt new i .position) (s .value) .0) ss
 
+-- after a session every basis is position·V (01, Session, 3)
+pub settled-basis : {b new : Book} {ts : List Trade} {ss : List Session} → Effect b new ts ss → (s : Session) → ss ≡ s ∷ [] → (i : ℕ) → basisOf (sectionAt new i) ≡ worth (sectionAt new i .position) (s .value) .0
+unfolding Every
+settled-basis {new = new} done s one = subst (Every (λ (t : Session). (i : ℕ) → basisOf (sectionAt new i) ≡ worth (sectionAt new i .position) (t .value) .0)) one (done .settles) .0
+
 -- a call that brings neither
 quiet : (b new : Book) → good new ≡ true → ((i : ℕ) → positionOf (sectionAt new i) ≡ positionOf (sectionAt b i)) → ((i : ℕ) → basisOf (sectionAt new i) ≡ basisOf (sectionAt b i)) → new .last ≡ b .last → Effect b new [] []
 unfolding net entered gathered some Every
