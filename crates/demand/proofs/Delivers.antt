@@ -13,7 +13,7 @@ use Rattle.rules.specs.Expiry.Passes.{Line}
 use Rattle.rules.specs.Expiry.Call.{Lists, delivered, lines, expiryRefusals}
 use Rattle.rules.specs.History.{Trade, net, Delivered, Register, drawnLots}
 use Rattle.book_laws.proofs.Good.{Good, facts}
-use Rattle.book_laws.proofs.Held.{held-length, filed-length, held-good, held-told}
+use Rattle.book_laws.proofs.Held.{held-length, filed-length, held-codes, held-told}
 use Rattle.method_laws.proofs.Shares.{Told}
 use Rattle.method_laws.proofs.StageTwo.{lineLots}
 use Rattle.method_laws.proofs.Delivery
@@ -43,7 +43,7 @@ module _ (b : Book) (ls : Lists) (all : List Trade) (sound : good b ≡ true) (a
   notice-is k h = getD-take (b .filed) (b .notices) k _ (omega (arith, h, filed))
 
   codes : (i : ℕ) → i < length ss → sectionOf ss i .settlement < 64
-  codes i h = omega (arith, ap (λ (s : Section). s .settlement) (section-is i h), held-good b book i (omega (arith, h, held)) .settlement)
+  codes = held-codes b book
 
   told : Told ss
   told = held-told b book
