@@ -2,12 +2,16 @@
 use Rattle.rules.specs.Words.{ℕ, _-_, min, Bool, cond, List, [], _∷_, ltb, length, set, replicate, counted, listed, entry, ordered, ℤ}
 use Rattle.rules.specs.declared.book.{Section.Section}
 use Rattle.rules.specs.Book.{settlementCodes, sectionOf}
-use Rattle.rules.specs.Expiry.{earlier}
+use Rattle.rules.specs.Expiry.{opposed, agreed, earlier}
 use Rattle.rules.specs.Expiry.Across.{codeCap}
 
 -- the smaller first, or the larger
 abbrev pub sooner : Bool → ℕ → ℕ → Bool
 sooner larger = cond larger (λ (x y : ℕ). ltb y x) ltb
+
+-- on the same side, or on opposite ones
+abbrev pub onSide : Bool → ℤ → ℤ → Bool
+onSide same = cond same agreed opposed
 
 -- the numbers of all sections in an order
 unfoldable pub inOrder : (ℕ → ℕ → Bool) → List Section → List ℕ → List ℕ
