@@ -7,13 +7,12 @@ use Rattle.numbers.proofs.Tests.{below-or-not}
 use Rattle.numbers.proofs.Whole.{sum-within}
 use Rattle.rules.specs.Book.{heldSections, filedNotices, positionOf, sectionOf, sectionOfNoughts}
 use Rattle.rules.specs.Expiry
-use Rattle.rules.specs.Expiry.{opposed, chosen, earlier, inOrder, netOfCode}
+use Rattle.rules.specs.Expiry.{earlier, netOfCode}
 use Rattle.rules.specs.Expiry.Failing.{fails, failing}
 use Rattle.rules.specs.Expiry.Codes.{dOfCodes, givenInCodes}
-use Rattle.rules.specs.Expiry.Across.{dOverall, codeCaps, givenAcross}
+use Rattle.rules.specs.Expiry.Across.{dOverall, givenAcross}
 use Rattle.rules.specs.Expiry.Call.{delivered}
-use Rattle.method_laws.proofs.Greedy.{given}
-use Rattle.method_laws.proofs.Sides.{chosen-within}
+use Rattle.method_laws.specs.Giving.{inOrder}
 use Rattle.book_laws.proofs.Good.{Good}
 use Rattle.book_laws.proofs.Held.{held-length, held-good}
 use Rattle.method_holding.proofs.Laws.{held-at, adds, adds-most, net-all}
@@ -100,18 +99,6 @@ module _ (ss : List Section) where
   pub failed-within : (ns : List Notice) (i : ℕ) → entry (failing ss ns) i ≤ entry (map Expiry.size ss) i
   unfolding failing
   failed-within ns i = omega (arith, sizes-at i, listed-under (length ss) (fails ss ns) (λ (j : ℕ). Expiry.size (sectionOf ss j)) i)
-
-  pub in-codes-within : (gap : List ℤ) (sound : List ℕ) (i : ℕ) → entry (givenInCodes ss gap sound) i ≤ entry sound i
-  unfolding givenInCodes
-  in-codes-within gap sound i =
-      let test : Section → Bool = λ (s : Section). opposed (positionOf s) (entryℤ gap (s .settlement)) in
-      omega (arith, given ss (chosen ss test sound) ltb (map natAbs gap) (total (map natAbs gap)) .each i, chosen-within ss test sound i)
-
-  pub across-within : (d : ℤ) (left : List ℕ) (i : ℕ) → entry (givenAcross ss d left) i ≤ entry left i
-  unfolding givenAcross
-  across-within d left i =
-      let test : Section → Bool = λ (s : Section). opposed (positionOf s) d in
-      omega (arith, given ss (chosen ss test left) ltb (codeCaps ss d left) (natAbs d) .each i, chosen-within ss test left i)
 
   pub delivered-within : (ns : List Notice) (i : ℕ) → entry (delivered ss ns) i ≤ entry (map Expiry.size ss) i
   unfolding delivered
