@@ -32,24 +32,24 @@ module _ (ps : Pairs) where
   known-buyer sections known k h = omega (arith, ap (λ (q : Pair). q .buyer) (pair-at k h), known .buyer k (omega (arith, h, pairs-count)))
 
   -- one pair more is written
-  pub pairs-more : (buyer elevator lots : ℕ) → ps .count < length (ps .buyers) → ps .count < length (ps .elevators) → ps .count < length (ps .lots)
+  pub pairs-more : (buyer elevator lots : ℕ) → ps .count < 160 → length (ps .buyers) ≡ 160 → length (ps .elevators) ≡ 160 → length (ps .lots) ≡ 160
       → pairsIn (record { buyers = set (ps .buyers) (ps .count) buyer; elevators = set (ps .elevators) (ps .count) elevator; lots = set (ps .lots) (ps .count) lots; count = ps .count + 1 })
       ≡ pairsIn ps ++ (record { buyer = buyer; elevator = elevator; lots = lots } ∷ [])
-  pairs-more buyer elevator lots h h′ h″ =
+  pairs-more buyer elevator lots room e e′ e″ =
       let n = ps .count in
       listed-next n pairIn _ _
       (λ i l.
       let other : i ≡ n → ⊥ = λ e. absurd (omega (arith, l, e)) in
       rw (getD-set-other (ps .buyers) n i buyer 0 other, getD-set-other (ps .elevators) n i elevator 0 other, getD-set-other (ps .lots) n i lots 0 other))
-      (rw (getD-set-same (ps .buyers) n buyer 0 h, getD-set-same (ps .elevators) n elevator 0 h′, getD-set-same (ps .lots) n lots 0 h″))
+      (rw (getD-set-same (ps .buyers) n buyer 0 (omega (arith, room, e)), getD-set-same (ps .elevators) n elevator 0 (omega (arith, room, e′)), getD-set-same (ps .lots) n lots 0 (omega (arith, room, e″))))
 
   -- a pair's lots are written anew
-  pub pairs-less : (p left : ℕ) → p < ps .count → p < length (ps .lots)
+  pub pairs-less : (p left : ℕ) → p < ps .count → ps .count ≤ 160 → length (ps .lots) ≡ 160
       → pairsIn (record { buyers = ps .buyers; elevators = ps .elevators; lots = set (ps .lots) p left; count = ps .count }) ≡ pairLeft (pairsIn ps) p left
-  pairs-less p left below h =
+  pairs-less p left below few e =
       sym
       (ap (λ (q : Pair). set (pairsIn ps) p (withLots q left)) (pair-at p below)
-      ∙ listed-set (ps .count) pairIn _ _ p below (λ i l other. rw (getD-set-other (ps .lots) p i left 0 other)) (rw (getD-set-same (ps .lots) p left 0 h)))
+      ∙ listed-set (ps .count) pairIn _ _ p below (λ i l other. rw (getD-set-other (ps .lots) p i left 0 other)) (rw (getD-set-same (ps .lots) p left 0 (omega (arith, below, few, e)))))
 
 -- the pairs with lots left are of the same sections
 pub known-left : (ps : List Pair) (p left sections : ℕ) → Known ps sections → Known (pairLeft ps p left) sections
@@ -76,13 +76,18 @@ module _ (g : Register) where
   lines-count = listed-length (g .count) lineIn
 
   -- one line more is written
-  pub lines-more : (buyer elevator seller lots : ℕ) → g .count < length (g .buyers) → g .count < length (g .elevators) → g .count < length (g .sellers) → g .count < length (g .lots)
+  pub lines-more : (buyer elevator seller lots : ℕ) → g .count < 382 → length (g .buyers) ≡ 382 → length (g .elevators) ≡ 382 → length (g .sellers) ≡ 382 → length (g .lots) ≡ 382
       → linesIn (record { buyers = set (g .buyers) (g .count) buyer; elevators = set (g .elevators) (g .count) elevator; sellers = set (g .sellers) (g .count) seller; lots = set (g .lots) (g .count) lots; count = g .count + 1 })
       ≡ linesIn g ++ (record { buyer = buyer; elevator = elevator; seller = seller; lots = lots } ∷ [])
-  lines-more buyer elevator seller lots h h′ h″ h‴ =
+  lines-more buyer elevator seller lots room e e′ e″ e‴ =
       let n = g .count in
       listed-next n lineIn _ _
       (λ i l.
       let other : i ≡ n → ⊥ = λ e. absurd (omega (arith, l, e)) in
       rw (getD-set-other (g .buyers) n i buyer 0 other, getD-set-other (g .elevators) n i elevator 0 other, getD-set-other (g .sellers) n i seller 0 other, getD-set-other (g .lots) n i lots 0 other))
-      (rw (getD-set-same (g .buyers) n buyer 0 h, getD-set-same (g .elevators) n elevator 0 h′, getD-set-same (g .sellers) n seller 0 h″, getD-set-same (g .lots) n lots 0 h‴))
+      (rw (
+        getD-set-same (g .buyers) n buyer 0 (omega (arith, room, e)),
+        getD-set-same (g .elevators) n elevator 0 (omega (arith, room, e′)),
+        getD-set-same (g .sellers) n seller 0 (omega (arith, room, e″)),
+        getD-set-same (g .lots) n lots 0 (omega (arith, room, e‴)),
+      ))

@@ -1,70 +1,63 @@
+-- The loop's invariant: the best of the first i entries, and the scan of those left, find the largest of all. So in each scan.
+use Rattle.numbers.proofs.Words.{needs, _-_, arith, refl, now}
+use Rattle.method_laws.specs.Columns.{byKey}
+use Rattle.method_passes.proofs.Scan.{Scan, scan-start, scan-next, scan-end}
 use Rattle.method_passes.proofs.fullest.buyer.Statement.{statement}
 use Rattle.method_passes.proofs.fullest.buyer.Tie as tie
-use Rattle.method_passes.proofs.fullest.buyer.Reads as reads
-use Rattle.method_passes.proofs.fullest.buyer.Lts as lts
-use Rattle.method_passes.proofs.fullest.leader.Reads as leader-reads
 
 abbrev Inv-loop : tie.InvT-loop
-Inv-loop keys lots all best₀ i₀ best i = ?
+Inv-loop keys lots all best₀ i₀ best i = Scan (byKey keys) lots best i
 
 abbrev μ-loop : tie.MeasureT-loop
-μ-loop keys lots all best₀ i₀ best i = ?
+μ-loop keys lots all best₀ i₀ best i = all - i
 
--- src/fullest.rt:27:5
 loop-holds : tie.Need-loop-holds Inv-loop μ-loop
-loop-holds c = ?
+loop-holds c = scan-start (byKey (now (c .before .before .args .keys))) (now (c .before .before .args .lots))
 
--- src/fullest.rt:28:19
 mul-own : tie.Need-mul-own Inv-loop μ-loop
-mul-own c = ?
+mul-own c = search needs
 
--- src/fullest.rt:28:19
 shared-slice-read-own : tie.Need-shared-slice-read-own Inv-loop μ-loop
-shared-slice-read-own c = ?
+shared-slice-read-own c = search needs
 
--- src/fullest.rt:29:20
 mul-most : tie.Need-mul-most Inv-loop μ-loop
-mul-most c = ?
+mul-most c = search needs
 
--- src/fullest.rt:29:20
 shared-slice-read-most : tie.Need-shared-slice-read-most Inv-loop μ-loop
-shared-slice-read-most c = ?
+shared-slice-read-most c = search needs
 
--- src/fullest.rt:30:20
 mul-mine : tie.Need-mul-mine Inv-loop μ-loop
-mul-mine c = ?
+mul-mine c = search needs
 
--- src/fullest.rt:30:20
 shared-slice-read-mine : tie.Need-shared-slice-read-mine Inv-loop μ-loop
-shared-slice-read-mine c = ?
+shared-slice-read-mine c = search needs
 
--- src/fullest.rt:31:19
 mul-its : tie.Need-mul-its Inv-loop μ-loop
-mul-its c = ?
+mul-its c = search needs
 
--- src/fullest.rt:31:19
 shared-slice-read-its : tie.Need-shared-slice-read-its Inv-loop μ-loop
-shared-slice-read-its c = ?
+shared-slice-read-its c = search needs
 
--- src/fullest.rt:33:9
 leader-requires : tie.Need-leader-requires Inv-loop μ-loop
-leader-requires c κs = ?
+leader-requires c κs = search needs
 
--- src/fullest.rt:34:9
 add-i : tie.Need-add-i Inv-loop μ-loop
-add-i c = ?
+add-i c = search needs
 
--- src/fullest.rt:27:5
 loop-less : tie.Need-loop-less Inv-loop μ-loop
-loop-less c = ?
+loop-less c = search needs
 
--- src/fullest.rt:27:5
 loop-again : tie.Need-loop-again Inv-loop μ-loop
-loop-again c = ?
+loop-again c =
+    let at = c .before .before .before .before .before .before in
+    let a = at .before .before .before .args in
+    scan-next (byKey (now (a .keys))) (now (a .lots)) (at .loop .best) (at .loop .i) _ _ _ _ (omega arith) (at .loop .inv) refl refl refl (c .leader .ensures)
 
--- src/fullest.rt:20:1
 returns : tie.Need-returns Inv-loop μ-loop
-returns c = ?
+returns c =
+    let at = c .before in
+    let a = at .before .before .before .args in
+    scan-end (byKey (now (a .keys))) (now (a .lots)) (at .loop .best) (at .loop .i) (omega arith) (at .loop .inv)
 
 pub buyer-spec : {M : Type 1} → statement M
 buyer-spec =

@@ -1,79 +1,83 @@
+use Rattle.numbers.proofs.Words.{ℕ, Bool, List, needs, _-_, _<_, arith, refl, now, length, entry}
+use Rattle.rules.specs.Expiry.Passes.{offers}
+use Rattle.method_laws.specs.Columns.{byKey}
+use Rattle.method_passes.proofs.Scan.{Scan, scan-start, scan-next, scan-end}
+use Rattle.method_passes.proofs.Offered.{offers-length}
 use Rattle.method_passes.proofs.fullest.notice.Statement.{statement}
 use Rattle.method_passes.proofs.fullest.notice.Tie as tie
-use Rattle.method_passes.proofs.fullest.notice.Reads as reads
-use Rattle.method_passes.proofs.fullest.notice.Lts as lts
-use Rattle.method_passes.proofs.fullest.leader.Reads as leader-reads
-use Rattle.method_passes.proofs.offers.offer.Reads as offer-reads
+
+abbrev earlier : List ℕ → List ℕ → ℕ → ℕ → Bool
+earlier keys sellers i j = byKey keys (entry sellers i) (entry sellers j)
 
 abbrev Inv-loop : tie.InvT-loop
-Inv-loop keys sellers stands drawn elevator all best₀ i₀ best i = ?
+Inv-loop keys sellers stands drawn elevator all best₀ i₀ best i = Scan (earlier keys sellers) (offers stands drawn elevator) best i
 
 abbrev μ-loop : tie.MeasureT-loop
-μ-loop keys sellers stands drawn elevator all best₀ i₀ best i = ?
+μ-loop keys sellers stands drawn elevator all best₀ i₀ best i = all - i
 
--- src/fullest.rt:94:5
+-- each seller has a key
+mine : (c : tie.After-shared-slice-known6 Inv-loop μ-loop) → entry (now (c .before .before .before .before .before .before .before .before .before .before .args .sellers)) (c .before .before .before .before .before .loop .i) < length (now (c .before .before .before .before .before .before .before .before .before .before .args .keys))
+mine c = c .before .before .before .before .before .before .before .before .before .before .pre .seller (c .before .before .before .before .before .loop .i) (omega arith)
+
+its : (c : tie.After-shared-slice-known6 Inv-loop μ-loop) → entry (now (c .before .before .before .before .before .before .before .before .before .before .args .sellers)) (c .before .before .before .before .before .loop .best) < length (now (c .before .before .before .before .before .before .before .before .before .before .args .keys))
+its c = c .before .before .before .before .before .before .before .before .before .before .pre .seller (c .before .before .before .before .before .loop .best) (omega arith)
+
 loop-holds : tie.Need-loop-holds Inv-loop μ-loop
-loop-holds c = ?
+loop-holds c =
+    let a = c .before .before .before .before .args in
+    scan-start (earlier (now (a .keys)) (now (a .sellers))) (offers (now (a .stands)) (now (a .drawn)) (a .elevator))
 
--- src/fullest.rt:95:13
 offer-requires : tie.Need-offer-requires Inv-loop μ-loop
-offer-requires c κs = ?
+offer-requires c κs = (c .before .before .before .before .before .before .pre .notices .long, omega arith)
 
--- src/fullest.rt:96:13
 offer-requires-2 : tie.Need-offer-requires-2 Inv-loop μ-loop
-offer-requires-2 c κs = ?
+offer-requires-2 c κs = (c .before .before .before .before .before .before .before .pre .notices .long, omega arith)
 
--- src/fullest.rt:97:22
 shared-slice-read-seller : tie.Need-shared-slice-read-seller Inv-loop μ-loop
-shared-slice-read-seller c = ?
+shared-slice-read-seller c = omega (arith, c .before .before .before .before .before .before .before .before .before .pre .long)
 
--- src/fullest.rt:97:22
 cast-seller : tie.Need-cast-seller Inv-loop μ-loop
-cast-seller c = ?
+cast-seller c = omega (arith, c .shared-slice-known5 .given (c .before .before .before .before .loop .i))
 
--- src/fullest.rt:98:21
 shared-slice-read-other : tie.Need-shared-slice-read-other Inv-loop μ-loop
-shared-slice-read-other c = ?
+shared-slice-read-other c = omega (arith, c .before .before .before .before .before .before .before .before .before .before .pre .long)
 
--- src/fullest.rt:98:21
 cast-other : tie.Need-cast-other Inv-loop μ-loop
-cast-other c = ?
+cast-other c = omega (arith, c .shared-slice-known6 .given (c .before .before .before .before .before .loop .best))
 
--- src/fullest.rt:99:20
 mul-mine : tie.Need-mul-mine Inv-loop μ-loop
-mul-mine c = ?
+mul-mine c = omega (arith, mine c)
 
--- src/fullest.rt:99:20
 shared-slice-read-mine : tie.Need-shared-slice-read-mine Inv-loop μ-loop
-shared-slice-read-mine c = ?
+shared-slice-read-mine c = mine (c .before)
 
--- src/fullest.rt:100:19
 mul-its : tie.Need-mul-its Inv-loop μ-loop
-mul-its c = ?
+mul-its c = omega (arith, its (c .before))
 
--- src/fullest.rt:100:19
 shared-slice-read-its : tie.Need-shared-slice-read-its Inv-loop μ-loop
-shared-slice-read-its c = ?
+shared-slice-read-its c = its (c .before .before)
 
--- src/fullest.rt:102:9
 leader-requires : tie.Need-leader-requires Inv-loop μ-loop
-leader-requires c κs = ?
+leader-requires c κs = search needs
 
--- src/fullest.rt:103:9
 add-i : tie.Need-add-i Inv-loop μ-loop
-add-i c = ?
+add-i c = search needs
 
--- src/fullest.rt:94:5
 loop-less : tie.Need-loop-less Inv-loop μ-loop
-loop-less c = ?
+loop-less c = search needs
 
--- src/fullest.rt:94:5
 loop-again : tie.Need-loop-again Inv-loop μ-loop
-loop-again c = ?
+loop-again c =
+    let at = c .before .before .before .before .before .before .before .before in
+    let a = at .before .before .before .before .before .args in
+    scan-next (earlier (now (a .keys)) (now (a .sellers))) (offers (now (a .stands)) (now (a .drawn)) (a .elevator)) (at .loop .best) (at .loop .i) _ _ _ _ (omega (arith, offers-length (now (a .stands)) (now (a .drawn)) (a .elevator))) (at .loop .inv)
+    (c .before .before .before .before .before .before .offer .ensures) (c .before .before .before .before .before .offer2 .ensures) refl (c .leader .ensures)
 
--- src/fullest.rt:87:1
 returns : tie.Need-returns Inv-loop μ-loop
-returns c = ?
+returns c =
+    let at = c .before in
+    let a = at .before .before .before .before .before .args in
+    scan-end (earlier (now (a .keys)) (now (a .sellers))) (offers (now (a .stands)) (now (a .drawn)) (a .elevator)) (at .loop .best) (at .loop .i) (omega (arith, offers-length (now (a .stands)) (now (a .drawn)) (a .elevator))) (at .loop .inv)
 
 pub notice-spec : {M : Type 1} → statement M
 notice-spec =

@@ -1,99 +1,107 @@
+use Rattle.numbers.proofs.Words.{ℕ, Bool, List, needs, _-_, _<_, _≤_, arith, now, sym, ap₂, _∙_, length, entry}
+use Rattle.rules.specs.Expiry.Passes.{Pair, pairOf, earlierPair}
+use Rattle.method_laws.specs.Columns.{byKey}
+use Rattle.method_passes.specs.declared.{pairs.Pairs.Pairs}
+use Rattle.method_passes.specs.Formed.{pairsIn}
+use Rattle.method_passes.proofs.Scan.{Scan, scan-start, scan-next, scan-end}
+use Rattle.method_passes.proofs.Arrays.{pairs-count, pair-at, lotsIn, lots-length, lots-at, known-buyer}
 use Rattle.method_passes.proofs.fullest.pair.Statement.{statement}
 use Rattle.method_passes.proofs.fullest.pair.Tie as tie
-use Rattle.method_passes.proofs.fullest.pair.Reads as reads
-use Rattle.method_passes.proofs.fullest.pair.Lts as lts
-use Rattle.method_passes.proofs.fullest.earlier_pair.Reads as earlier-pair-reads
-use Rattle.method_passes.proofs.fullest.leader.Reads as leader-reads
+
+abbrev earlier : List ℕ → Pairs → ℕ → ℕ → Bool
+earlier keys ps i j = earlierPair (byKey keys) (pairOf (pairsIn ps) i) (pairOf (pairsIn ps) j)
 
 abbrev Inv-loop : tie.InvT-loop
-Inv-loop keys ps best₀ i₀ best i = ?
+Inv-loop keys ps best₀ i₀ best i = Scan (earlier keys ps) (lotsIn ps) best i
 
 abbrev μ-loop : tie.MeasureT-loop
-μ-loop keys ps best₀ i₀ best i = ?
+μ-loop keys ps best₀ i₀ best i = ps .count - i
 
--- src/fullest.rt:70:5
+-- there is a place for each pair, and each buyer has a key
+few : (c : tie.At-loop Inv-loop μ-loop) → c .before .before .args .t2 .count ≤ 160
+few c = omega (arith, pairs-count (c .before .before .args .t2), c .before .before .pre .few)
+
+mine : (c : tie.After-other Inv-loop μ-loop) → entry (c .before .before .before .before .before .before .before .args .t2 .buyers) (c .before .before .before .before .before .loop .i) < length (now (c .before .before .before .before .before .before .before .args .keys))
+mine c = known-buyer (c .before .before .before .before .before .before .before .args .t2) _ (c .before .before .before .before .before .before .before .pre) (c .before .before .before .before .before .loop .i) (omega arith)
+
+its : (c : tie.After-other Inv-loop μ-loop) → entry (c .before .before .before .before .before .before .before .args .t2 .buyers) (c .before .before .before .before .before .loop .best) < length (now (c .before .before .before .before .before .before .before .args .keys))
+its c = known-buyer (c .before .before .before .before .before .before .before .args .t2) _ (c .before .before .before .before .before .before .before .pre) (c .before .before .before .before .before .loop .best) (omega arith)
+
 loop-holds : tie.Need-loop-holds Inv-loop μ-loop
-loop-holds c = ?
+loop-holds c = scan-start (earlier (now (c .before .args .keys)) (c .before .args .t2)) (lotsIn (c .before .args .t2))
 
--- src/fullest.rt:71:19
 mul-own : tie.Need-mul-own Inv-loop μ-loop
-mul-own c = ?
+mul-own c = omega (arith, few (c .before))
 
--- src/fullest.rt:71:19
 element-copy-out-own : tie.Need-element-copy-out-own Inv-loop μ-loop
-element-copy-out-own c = ?
+element-copy-out-own c = omega (arith, few (c .before))
 
--- src/fullest.rt:72:20
 mul-most : tie.Need-mul-most Inv-loop μ-loop
-mul-most c = ?
+mul-most c = omega (arith, few (c .before .before))
 
--- src/fullest.rt:72:20
 element-copy-out-most : tie.Need-element-copy-out-most Inv-loop μ-loop
-element-copy-out-most c = ?
+element-copy-out-most c = omega (arith, few (c .before .before))
 
--- src/fullest.rt:73:21
 element-copy-out-buyer : tie.Need-element-copy-out-buyer Inv-loop μ-loop
-element-copy-out-buyer c = ?
+element-copy-out-buyer c = omega (arith, few (c .before .before .before))
 
--- src/fullest.rt:74:21
 element-copy-out-other : tie.Need-element-copy-out-other Inv-loop μ-loop
-element-copy-out-other c = ?
+element-copy-out-other c = omega (arith, few (c .before .before .before .before))
 
--- src/fullest.rt:75:25
 cast-mine : tie.Need-cast-mine Inv-loop μ-loop
-cast-mine c = ?
+cast-mine c = search needs
 
--- src/fullest.rt:75:20
 mul-mine : tie.Need-mul-mine Inv-loop μ-loop
-mul-mine c = ?
+mul-mine c = omega (arith, mine c)
 
--- src/fullest.rt:75:20
 shared-slice-read-mine : tie.Need-shared-slice-read-mine Inv-loop μ-loop
-shared-slice-read-mine c = ?
+shared-slice-read-mine c = mine (c .before)
 
--- src/fullest.rt:76:24
 cast-its : tie.Need-cast-its Inv-loop μ-loop
-cast-its c = ?
+cast-its c = search needs
 
--- src/fullest.rt:76:19
 mul-its : tie.Need-mul-its Inv-loop μ-loop
-mul-its c = ?
+mul-its c = omega (arith, its (c .before))
 
--- src/fullest.rt:76:19
 shared-slice-read-its : tie.Need-shared-slice-read-its Inv-loop μ-loop
-shared-slice-read-its c = ?
+shared-slice-read-its c = its (c .before .before)
 
--- src/fullest.rt:77:22
 element-copy-out-stands : tie.Need-element-copy-out-stands Inv-loop μ-loop
-element-copy-out-stands c = ?
+element-copy-out-stands c = omega (arith, few (c .before .before .before .before .before .before .before))
 
--- src/fullest.rt:78:25
 element-copy-out-elsewhere : tie.Need-element-copy-out-elsewhere Inv-loop μ-loop
-element-copy-out-elsewhere c = ?
+element-copy-out-elsewhere c = omega (arith, few (c .before .before .before .before .before .before .before .before))
 
--- src/fullest.rt:79:13
 earlier-pair-requires : tie.Need-earlier-pair-requires Inv-loop μ-loop
-earlier-pair-requires c κs = ?
+earlier-pair-requires c κs = search needs
 
--- src/fullest.rt:80:9
 leader-requires : tie.Need-leader-requires Inv-loop μ-loop
-leader-requires c κs = ?
+leader-requires c κs = search needs
 
--- src/fullest.rt:81:9
 add-i : tie.Need-add-i Inv-loop μ-loop
-add-i c = ?
+add-i c = search needs
 
--- src/fullest.rt:70:5
 loop-less : tie.Need-loop-less Inv-loop μ-loop
-loop-less c = ?
+loop-less c = search needs
 
--- src/fullest.rt:70:5
 loop-again : tie.Need-loop-again Inv-loop μ-loop
-loop-again c = ?
+loop-again c =
+    let at = c .before .before .before .before .before .before .before .before .before .before .before in
+    let keys = now (at .before .before .args .keys) in
+    let ps = at .before .before .args .t2 in
+    let below : at .loop .i < ps .count = omega arith in
+    let below′ : at .loop .best < ps .count = omega arith in
+    scan-next (earlier keys ps) (lotsIn ps) (at .loop .best) (at .loop .i) _ _ _ _ (omega (arith, lots-length ps)) (at .loop .inv)
+    (sym (lots-at ps (at .loop .i) below))
+    (sym (lots-at ps (at .loop .best) below′))
+    (c .before .earlier-pair .ensures ∙ sym (ap₂ (earlierPair (byKey keys)) (pair-at ps (at .loop .i) below) (pair-at ps (at .loop .best) below′)))
+    (c .leader .ensures)
 
--- src/fullest.rt:64:1
 returns : tie.Need-returns Inv-loop μ-loop
-returns c = ?
+returns c =
+    let at = c .before in
+    let ps = at .before .before .args .t2 in
+    scan-end (earlier (now (at .before .before .args .keys)) ps) (lotsIn ps) (at .loop .best) (at .loop .i) (omega (arith, lots-length ps)) (at .loop .inv)
 
 pub pair-spec : {M : Type 1} → statement M
 pair-spec =

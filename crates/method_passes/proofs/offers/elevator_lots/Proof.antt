@@ -1,73 +1,74 @@
+-- The loop's invariant: the list has the sums of the first k notices.
+use Rattle.numbers.proofs.Words.{needs, _-_, _<_, _≤_, arith, now, sym, ap, _∙_, length, entry, _≡_}
+use Rattle.method_passes.proofs.Offered.{Summed, summed-none, summed-length, summed-fits, summed-next, summed-all}
 use Rattle.method_passes.proofs.offers.elevator_lots.Statement.{statement}
 use Rattle.method_passes.proofs.offers.elevator_lots.Tie as tie
-use Rattle.method_passes.proofs.offers.elevator_lots.Reads as reads
-use Rattle.method_passes.proofs.offers.elevator_lots.Lts as lts
 
 abbrev Inv-loop : tie.InvT-loop
-Inv-loop stands drawn out₀ all k₀ out k = ?
+Inv-loop stands drawn out₀ all k₀ out k = Summed stands drawn out k
 
 abbrev μ-loop : tie.MeasureT-loop
-μ-loop stands drawn out₀ all k₀ out k = ?
+μ-loop stands drawn out₀ all k₀ out k = all - k
 
--- src/offers.rt:24:5
+-- the notice stands at an elevator, the list has a place for each, and no sum is too large
+there : (c : tie.In-loop Inv-loop μ-loop) → entry (now (c .before .before .args .stands)) (c .before .loop .k) < 32
+there c = c .before .before .pre .0 .standing (c .before .loop .k) (omega arith)
+
+long : (c : tie.At-loop Inv-loop μ-loop) → length (c .loop .out) ≡ 32
+long c = summed-length (now (c .before .args .stands)) (now (c .before .args .drawn)) (c .loop .out) (c .loop .k) (c .loop .inv)
+
+fits : (c : tie.In-loop Inv-loop μ-loop) → entry (c .before .loop .out) (entry (now (c .before .before .args .stands)) (c .before .loop .k)) ≤ 256_000_000
+fits c = summed-fits (now (c .before .before .args .stands)) (now (c .before .before .args .drawn)) (c .before .loop .out) (c .before .loop .k) (c .before .loop .inv) (c .before .before .pre .0) _ (there c)
+
 loop-holds : tie.Need-loop-holds Inv-loop μ-loop
-loop-holds c = ?
+loop-holds c = summed-none (now (c .args .stands)) (now (c .args .drawn)) (now (c .args .out)) (c .pre .1)
 
--- src/offers.rt:25:17
 shared-slice-read-e : tie.Need-shared-slice-read-e Inv-loop μ-loop
-shared-slice-read-e c = ?
+shared-slice-read-e c = search needs
 
--- src/offers.rt:25:17
 cast-e : tie.Need-cast-e Inv-loop μ-loop
-cast-e c = ?
+cast-e c = omega (arith, c .shared-slice-known .given (c .before .before .loop .k))
 
--- src/offers.rt:26:19
 mul-own : tie.Need-mul-own Inv-loop μ-loop
-mul-own c = ?
+mul-own c = search needs
 
--- src/offers.rt:26:19
 shared-slice-read-own : tie.Need-shared-slice-read-own Inv-loop μ-loop
-shared-slice-read-own c = ?
+shared-slice-read-own c = omega (arith, c .before .before .before .before .pre .0 .long)
 
--- src/offers.rt:27:28
 mul-stands-there : tie.Need-mul-stands-there Inv-loop μ-loop
-mul-stands-there c = ?
+mul-stands-there c = omega (arith, there (c .before .before))
 
--- src/offers.rt:27:28
 slice-read-stands-there : tie.Need-slice-read-stands-there Inv-loop μ-loop
-slice-read-stands-there c = ?
+slice-read-stands-there c = omega (arith, there (c .before .before .before), long (c .before .before .before .before))
 
--- src/offers.rt:28:18
 add-out : tie.Need-add-out Inv-loop μ-loop
-add-out c = ?
+add-out c = omega (arith, there (c .before .before .before), fits (c .before .before .before), c .before .before .before .before .before .pre .0 .small (c .before .before .before .before .loop .k))
 
--- src/offers.rt:28:9
 mul-out : tie.Need-mul-out Inv-loop μ-loop
-mul-out c = ?
+mul-out c = omega (arith, there (c .before .before .before))
 
--- src/offers.rt:28:9
 slice-write-out : tie.Need-slice-write-out Inv-loop μ-loop
-slice-write-out c = ?
+slice-write-out c = omega (arith, there (c .before .before .before), long (c .before .before .before .before))
 
--- src/offers.rt:29:9
 add-k : tie.Need-add-k Inv-loop μ-loop
-add-k c = ?
+add-k c = search needs
 
--- src/offers.rt:24:5
 loop-less : tie.Need-loop-less Inv-loop μ-loop
-loop-less c = ?
+loop-less c = search needs
 
--- src/offers.rt:24:5
 loop-again : tie.Need-loop-again Inv-loop μ-loop
-loop-again c = ?
+loop-again c =
+    let at = c .before .before .before .before in
+    let a = at .before .args in
+    summed-next (now (a .stands)) (now (a .drawn)) (at .loop .out) (at .loop .k) (at .loop .inv) (omega arith) (there (c .before .before .before))
 
--- src/offers.rt:18:1
 same-length : tie.Need-same-length Inv-loop μ-loop
-same-length c = ?
+same-length c = long (c .before) ∙ sym (ap length (c .before .before .pre .1))
 
--- src/offers.rt:18:1
 returns : tie.Need-returns Inv-loop μ-loop
-returns c = ?
+returns c =
+    let at = c .before in
+    summed-all (now (at .before .args .stands)) (now (at .before .args .drawn)) (at .loop .out) (at .loop .k) (at .loop .inv) (omega arith)
 
 pub elevator-lots-spec : {M : Type 1} → statement M
 elevator-lots-spec =
