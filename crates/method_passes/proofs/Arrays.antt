@@ -1,5 +1,5 @@
 -- Pairs and lines in arrays: how many there are, which is at a place, one more, and a pair with lots left.
-use Rattle.numbers.proofs.Words.{ℕ, _+_, _-_, _≤_, _<_, arith, _≡_, refl, sym, ap, _∙_, List, [], _∷_, _++_, map, length, set, length-map, length-set, List·getD-map, getD-set-same, getD-set-other, map-set-same, entry, counted, listed}
+use Rattle.numbers.proofs.Words.{ℕ, _+_, _-_, _≤_, _<_, arith, _≡_, refl, sym, ap, _∙_, List, [], _∷_, _++_, map, length, set, length-append, length-map, length-set, List·getD-map, getD-set-same, getD-set-other, map-set-same, entry, counted, listed}
 use Rattle.numbers.proofs.Ranges.{listed-length, listed-at, listed-next, listed-set}
 use Rattle.rules.specs.Expiry.Passes.{Pair, Line, pairOf, withLots}
 use Rattle.method_passes.specs.declared.{pairs.Pairs.Pairs, register.Register.Register}
@@ -50,6 +50,10 @@ module _ (ps : Pairs) where
       sym
       (ap (λ (q : Pair). set (pairsIn ps) p (withLots q left)) (pair-at p below)
       ∙ listed-set (ps .count) pairIn _ _ p below (λ i l other. rw (getD-set-other (ps .lots) p i left 0 other)) (rw (getD-set-same (ps .lots) p left 0 (omega (arith, below, few, e)))))
+
+-- so there is one more
+pub one-more-pair : (ps qs : Pairs) (q : Pair) → pairsIn qs ≡ pairsIn ps ++ (q ∷ []) → qs .count ≡ ps .count + 1
+one-more-pair ps qs q more = sym (pairs-count qs) ∙ ap length more ∙ length-append (pairsIn ps) (q ∷ []) ∙ ap (λ (n : ℕ). n + 1) (pairs-count ps)
 
 -- the pairs with lots left are of the same sections
 pub known-left : (ps : List Pair) (p left sections : ℕ) → Known ps sections → Known (pairLeft ps p left) sections

@@ -1,10 +1,10 @@
 -- Stage one, as its loop goes: the pairs formed, and those that stage one forms of what is left, are all pairs.
-use Rattle.numbers.proofs.Words.{ℕ, zero, suc, _+_, _-_, _≤_, _<_, min, arith, _≡_, refl, sym, ap, _∙_, Bool, true, false, cond, List, [], _∷_, _++_, append-assoc, append-nil, eqb, length, length-append, length-set, set, eq-eqb, ne-eqb, entry}
+use Rattle.numbers.proofs.Words.{ℕ, zero, suc, _+_, _-_, _≤_, _<_, min, arith, _≡_, refl, sym, ap, _∙_, Bool, true, false, cond, List, [], _∷_, _++_, append-assoc, append-nil, eqb, length, length-set, set, eq-eqb, ne-eqb, entry}
 use Rattle.numbers.proofs.Entries.{entry-place}
 use Rattle.rules.specs.Expiry.Passes.{Pair, fullestBuyer, fullestElevator, stageOne}
 use Rattle.method_passes.specs.declared.{pairs.Pairs.Pairs}
 use Rattle.method_passes.specs.Formed.{pairsIn}
-use Rattle.method_passes.proofs.Arrays.{pairs-count}
+use Rattle.method_passes.proofs.Arrays.{pairs-count, one-more-pair}
 
 -- a turn: the fullest buyer and the fullest elevator, what they have, and the smaller of it
 pub record Turn (lower : ℕ → ℕ → Bool) (bs es : List ℕ) (b e has stands amount : ℕ) : Type 0 where
@@ -99,7 +99,7 @@ module _ (lower : ℕ → ℕ → Bool) where
         pub pairing-next : (amount ≡ 0 → ⊥) → (qs : Pairs) → pairsIn qs ≡ pairsIn ps ++ (record { buyer = b; elevator = e; lots = amount } ∷ []) → Pairing (set bs b (has - amount)) (set es e (stands - amount)) qs
         pairing-next some qs more =
             let left : ℕ → List Pair = λ (n : ℕ). stageOne lower n (set bs b (has - amount)) (set es e (stands - amount)) in
-            let count : qs .count ≡ ps .count + 1 = sym (pairs-count qs) ∙ ap length more ∙ length-append (pairsIn ps) _ ∙ ap (λ (n : ℕ). n + 1) (pairs-count ps) in
+            let count = one-more-pair ps qs _ more in
             record {
               within = omega (arith, count, below);
               buyers-long = length-set bs b (has - amount) ∙ p .buyers-long;
