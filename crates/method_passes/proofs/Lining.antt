@@ -10,6 +10,10 @@ use Rattle.method_passes.specs.Formed.{pairsIn, pairLeft, linesIn, nextC
 use Rattle.method_passes.proofs.Arrays.{pairs-count, pair-at, known-left, lines-count}
 use Rattle.method_passes.proofs.Offered.{offers-length, offer-within}
 
+-- where there are pairs and notices
+pub some-there : (n m k : ℕ) → k ≡ n → (eqb n 0 || eqb m 0) ≡ false → (0 < k) × (0 < m)
+some-there n m k e test = (omega (arith, e, eqb-false n 0 (or-left (eqb n 0) (eqb m 0) test)), omega (arith, eqb-false m 0 (or-right (eqb n 0) (eqb m 0) test)))
+
 -- some is taken of a notice
 sold-left : (sellers stands drawn : List ℕ) (sections k some : ℕ) → some ≤ entry drawn k → Sold sellers stands drawn sections → Sold sellers stands (set drawn k (entry drawn k - some)) sections
 sold-left sellers stands drawn sections k some within s =
@@ -104,10 +108,8 @@ module _ (lower : ℕ → ℕ → Bool) where
         pub of-pair : r .lots ≤ entry (ps .lots) (r .pair)
         pub of-notice : r .lots ≤ entry drawn (r .notice)
 
-      pub taken : (r : Choice) → (eqb (ps .count) 0 || eqb (length stands) 0) ≡ false → r ≡ nextChoice lower sellers stands (pairsIn ps) drawn → Taken r
-      taken r test e =
-          let some : 0 < ps .count = omega (arith, eqb-false (ps .count) 0 (or-left (eqb (ps .count) 0) (eqb (length stands) 0) test)) in
-          let filed : 0 < length stands = omega (arith, eqb-false (length stands) 0 (or-right (eqb (ps .count) 0) (eqb (length stands) 0) test)) in
+      pub taken : 0 < ps .count → 0 < length stands → (r : Choice) → r ≡ nextChoice lower sellers stands (pairsIn ps) drawn → Taken r
+      taken some filed r e =
           let place = pair-there ps some (r .pair) (ap (λ (x : Choice). x .pair) e) in
           let at = pairOf (pairsIn ps) (next (pairsIn ps) drawn .pair) .elevator in
           record {
@@ -131,6 +133,17 @@ module _ (lower : ℕ → ℕ → Bool) where
         pub known : Known (pairsIn ps) sections
         pub sold : Sold sellers stands drawn sections
         pub whole : linesIn g ++ stageTwo lower sellers stands (turns - turn) (pairsIn ps) drawn ≡ all
+
+      pub lining-start : (drawn : List ℕ) (ps : Pairs) (g : Register) → turns ≡ ps .count + length stands → ps .count ≡ count → Known (pairsIn ps) sections → Sold sellers stands drawn sections
+          → linesIn g ++ linesFrom lower sellers stands (pairsIn ps) drawn ≡ all → Lining drawn ps g 0
+      lining-start drawn ps g enough same known sold whole =
+          record {
+            within = omega arith;
+            same-count = same;
+            known = known;
+            sold = sold;
+            whole = ap (λ (n : ℕ). linesIn g ++ stageTwo lower sellers stands n (pairsIn ps) drawn) (omega (arith, enough, pairs-count ps)) ∙ whole;
+          }
 
       module _ {drawn : List ℕ} {ps : Pairs} {g : Register} {turn : ℕ} (l : Lining drawn ps g turn) where
         -- nothing is left
