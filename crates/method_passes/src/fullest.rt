@@ -1,8 +1,8 @@
 // The place of most lots, among equal ones by the paper's keys. `keys` tell which of two section codes is lower.
-ghost use Rattle.rules.specs.Words.{ℕ, _≡_, _≤_, _<_, cond, _&&_, _||_, ltb, eqb, length, entry};
+ghost use Rattle.rules.specs.Words.{_≡_, cond, _&&_, _||_, ltb, eqb, length};
 ghost use Rattle.rules.specs.Expiry.Passes;
 ghost use Rattle.method_laws.specs.Columns.{byKey};
-ghost use Rattle.method_passes.specs.Formed.{pairsIn};
+ghost use Rattle.method_passes.specs.Formed.{pairsIn, Known, Sold};
 use crate::offers;
 use crate::pairs::Pairs;
 
@@ -29,7 +29,8 @@ pub fn buyer(keys: &[u64], lots: &[u64]) -> usize
         let most = lots[best];
         let mine = keys[i];
         let its = keys[best];
-        best = leader(i, own, best, most, mine < its);
+        let earlier = mine < its;
+        best = leader(i, own, best, most, earlier);
         i += 1;
     }
     best
@@ -45,22 +46,23 @@ pub fn elevator(lots: &[u64]) -> usize
     while i < all {
         let own = lots[i];
         let most = lots[best];
-        best = leader(i, own, best, most, i < best);
+        let earlier = i < best;
+        best = leader(i, own, best, most, earlier);
         i += 1;
     }
     best
 }
 
 // Whether a pair's buyer has the lower section code, or the same buyer's pair the lower elevator.
-fn earlier_pair(mine: u64, its: u64, same: bool, stands: u8, other: u8) -> bool
-    ensures { λ r. ⌜ r ≡ (ltb mine its || same && ltb stands other) ⌝ }
+fn earlier_pair(mine: u64, its: u64, same: bool, stands: u8, elsewhere: u8) -> bool
+    ensures { λ r. ⌜ r ≡ (ltb mine its || same && ltb stands elsewhere) ⌝ }
 {
-    (mine < its) | (same & (stands < other))
+    (mine < its) | (same & (stands < elsewhere))
 }
 
 // The pair with most lots; ties: lower buyer section code, then lower elevator (01, Expiry, 6.4).
 pub fn pair(keys: &[u64], ps: Pairs) -> usize
-    requires { ⌜ (ps .count ≤ 160) × ((k : ℕ) → k < ps .count → entry (ps .buyers) k < length (now keys)) ⌝ }
+    requires { ⌜ Known (pairsIn ps) (length (now keys)) ⌝ }
     ensures { λ r. ⌜ r ≡ Passes.fullestPair (byKey (now (keys .entry))) (pairsIn ps) ⌝ }
 {
     let mut best = 0;
@@ -70,13 +72,11 @@ pub fn pair(keys: &[u64], ps: Pairs) -> usize
         let most = ps.lots[best];
         let buyer = ps.buyers[i];
         let other = ps.buyers[best];
-        let earlier = earlier_pair(
-            keys[buyer as usize],
-            keys[other as usize],
-            buyer == other,
-            ps.elevators[i],
-            ps.elevators[best],
-        );
+        let mine = keys[buyer as usize];
+        let its = keys[other as usize];
+        let stands = ps.elevators[i];
+        let elsewhere = ps.elevators[best];
+        let earlier = earlier_pair(mine, its, buyer == other, stands, elsewhere);
         best = leader(i, own, best, most, earlier);
         i += 1;
     }
@@ -85,8 +85,7 @@ pub fn pair(keys: &[u64], ps: Pairs) -> usize
 
 // The notice with most lots at an elevator; ties: lower seller section code (01, Expiry, 6.4).
 pub fn notice(keys: &[u64], sellers: &[u8], stands: &[u8], drawn: &[u64], elevator: u8) -> usize
-    requires { ⌜ (length (now sellers) ≡ length (now stands)) × (length (now drawn) ≡ length (now stands)) ⌝ }
-    requires { ⌜ ((k : ℕ) → k < length (now sellers) → entry (now sellers) k < length (now keys)) ⌝ }
+    requires { ⌜ Sold (now sellers) (now stands) (now drawn) (length (now keys)) ⌝ }
     ensures { λ r. ⌜ r ≡ Passes.fullestNotice (byKey (now (keys .entry))) (now (sellers .entry)) (now (stands .entry)) (now (drawn .entry)) elevator ⌝ }
 {
     let all = stands.len();
@@ -99,7 +98,8 @@ pub fn notice(keys: &[u64], sellers: &[u8], stands: &[u8], drawn: &[u64], elevat
         let other = sellers[best] as usize;
         let mine = keys[seller];
         let its = keys[other];
-        best = leader(i, own, best, most, mine < its);
+        let earlier = mine < its;
+        best = leader(i, own, best, most, earlier);
         i += 1;
     }
     best

@@ -2,6 +2,7 @@
 pub mod fullest;
 pub mod offers;
 pub mod pairs;
+pub mod pass;
 pub mod register;
 pub mod stage_one;
 pub mod stage_two;

@@ -1,8 +1,7 @@
 // Stage one: pairs of buyers and elevators.
-ghost use Rattle.rules.specs.Words.{ℕ, _≡_, _+_, _≤_, _<_, length, entry};
-ghost use Rattle.rules.specs.Expiry.Passes;
+ghost use Rattle.rules.specs.Words.{_≡_, _≤_, length, entry};
 ghost use Rattle.method_laws.specs.Columns.{byKey};
-ghost use Rattle.method_passes.specs.Formed.{pairsIn, Known};
+ghost use Rattle.method_passes.specs.Formed.{pairsIn, pairsFrom};
 use crate::fullest;
 use crate::pairs;
 use crate::pairs::Pairs;
@@ -22,10 +21,9 @@ fn read(list: &[u64], i: usize) -> u64
 // The pairs that buyers' lots and elevators' lots form (01, Expiry, 6.2).
 pub fn form_pairs(keys: &[u64], buyers: &mut [u64], stocks: &mut [u64]) -> Pairs
     requires { ⌜ (length (now keys) ≤ 128) × (length (now buyers) ≡ length (now keys)) × (length (now stocks) ≡ 32) ⌝ }
-    ensures { λ r. ⌜ pairsIn r ≡ Passes.stageOne (byKey (now (keys .entry))) (length (now (keys .entry)) + 32) (now (buyers .entry)) (now (stocks .entry)) ⌝ }
-    ensures { λ r. ⌜ Known r (length (now (keys .entry))) ⌝ }
+    ensures { λ r. ⌜ pairsIn r ≡ pairsFrom (byKey (now (keys .entry))) (now (buyers .entry)) (now (stocks .entry)) ⌝ }
 {
-    let turns = keys.len() + ELEVATORS;
+    let turns = buyers.len() + ELEVATORS;
     let mut ps = pairs::none();
     while ps.count < turns {
         let buyer = fullest::buyer(keys, buyers);

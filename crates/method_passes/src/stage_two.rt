@@ -1,8 +1,7 @@
 // Stage two: lines of pairs and notices.
-ghost use Rattle.rules.specs.Words.{ℕ, _≡_, _+_, _≤_, _<_, min, cond, _||_, _++_, eqb, length, entry};
-ghost use Rattle.rules.specs.Expiry.Passes;
+ghost use Rattle.rules.specs.Words.{_≡_, _+_, _≤_, _<_, _++_, length};
 ghost use Rattle.method_laws.specs.Columns.{byKey};
-ghost use Rattle.method_passes.specs.Formed.{pairsIn, linesIn, Known, Sold};
+ghost use Rattle.method_passes.specs.Formed.{pairsIn, linesIn, nextChoice, linesFrom, Known, Sold};
 use crate::fullest;
 use crate::offers;
 use crate::pairs;
@@ -10,17 +9,6 @@ use crate::pairs::Pairs;
 use crate::register;
 use crate::register::Register;
 use value::lots;
-
-// How often lines are formed at most: never where there is no pair or no notice.
-fn most_turns(count: usize, filed: usize) -> usize
-    requires { ⌜ (count ≤ 160) × (filed ≤ 256) ⌝ }
-    ensures { λ r. ⌜ r ≡ cond (eqb count 0 || eqb filed 0) 0 (count + filed) ⌝ }
-{
-    if (count == 0) | (filed == 0) {
-        return 0;
-    }
-    count + filed
-}
 
 // Which pair, which notice, and how much.
 struct Choice {
@@ -31,11 +19,9 @@ struct Choice {
 
 // The next line, with no lots where none is left to form (01, Expiry, 6.3).
 fn choose(keys: &[u64], ps: Pairs, sellers: &[u8], stands: &[u8], drawn: &[u64]) -> Choice
-    requires { ⌜ Known ps (length (now keys)) × (0 < ps .count) ⌝ }
+    requires { ⌜ Known (pairsIn ps) (length (now keys)) × (0 < ps .count) ⌝ }
     requires { ⌜ Sold (now sellers) (now stands) (now drawn) (length (now keys)) × (0 < length (now stands)) ⌝ }
-    ensures { λ r. ⌜ r .pair ≡ Passes.fullestPair (byKey (now (keys .entry))) (pairsIn ps) ⌝ }
-    ensures { λ r. ⌜ r .notice ≡ Passes.fullestNotice (byKey (now (keys .entry))) (now (sellers .entry)) (now (stands .entry)) (now (drawn .entry)) (entry (ps .elevators) (r .pair)) ⌝ }
-    ensures { λ r. ⌜ r .lots ≡ min (entry (ps .lots) (r .pair)) (entry (Passes.offers (now (stands .entry)) (now (drawn .entry)) (entry (ps .elevators) (r .pair))) (r .notice)) ⌝ }
+    ensures { λ r. ⌜ r ≡ nextChoice (byKey (now (keys .entry))) (now (sellers .entry)) (now (stands .entry)) (pairsIn ps) (now (drawn .entry)) ⌝ }
 {
     let pair = fullest::pair(keys, ps);
     let elevator = ps.elevators[pair];
@@ -43,16 +29,32 @@ fn choose(keys: &[u64], ps: Pairs, sellers: &[u8], stands: &[u8], drawn: &[u64])
     let has = ps.lots[pair];
     let offered = offers::offer(stands, drawn, elevator, notice);
     let lots = lots::smaller(has, offered);
-    Choice { pair: pair, notice: notice, lots: lots }
+    Choice {
+        pair: pair,
+        notice: notice,
+        lots: lots,
+    }
 }
 
 // The lines that pairs and what is drawn of the notices form, after those that the register has (01, Expiry, 6.3).
-pub fn form_lines(keys: &[u64], formed: Pairs, sellers: &[u8], stands: &[u8], drawn: &mut [u64], before: Register) -> Register
-    requires { ⌜ Known formed (length (now keys)) × Sold (now sellers) (now stands) (now drawn) (length (now keys)) ⌝ }
-    requires { ⌜ before .count + length (Passes.stageTwo (byKey (now keys)) (now sellers) (now stands) (formed .count + length (now stands)) (pairsIn formed) (now drawn)) ≤ 382 ⌝ }
-    ensures { λ r. ⌜ linesIn r ≡ linesIn before ++ Passes.stageTwo (byKey (now (keys .entry))) (now (sellers .entry)) (now (stands .entry)) (formed .count + length (now (stands .entry))) (pairsIn formed) (now (drawn .entry)) ⌝ }
+pub fn form_lines(
+    keys: &[u64],
+    formed: Pairs,
+    sellers: &[u8],
+    stands: &[u8],
+    drawn: &mut [u64],
+    before: Register,
+) -> Register
+    requires { ⌜ Known (pairsIn formed) (length (now keys)) × Sold (now sellers) (now stands) (now drawn) (length (now keys)) ⌝ }
+    requires { ⌜ before .count + length (linesFrom (byKey (now keys)) (now sellers) (now stands) (pairsIn formed) (now drawn)) ≤ 382 ⌝ }
+    ensures { λ r. ⌜ linesIn r ≡ linesIn before ++ linesFrom (byKey (now (keys .entry))) (now (sellers .entry)) (now (stands .entry)) (pairsIn formed) (now (drawn .entry)) ⌝ }
 {
-    let turns = most_turns(formed.count, stands.len());
+    let count = formed.count;
+    let filed = stands.len();
+    if (count == 0) | (filed == 0) {
+        return before;
+    }
+    let turns = count + filed;
     let mut ps = formed;
     let mut g = before;
     let mut turn = 0;
@@ -66,8 +68,9 @@ pub fn form_lines(keys: &[u64], formed: Pairs, sellers: &[u8], stands: &[u8], dr
         let k = next.notice;
         let buyer = ps.buyers[p];
         let elevator = ps.elevators[p];
-        g = register::with_line(g, buyer, elevator, sellers[k], lots as u32);
         let has = ps.lots[p];
+        let seller = sellers[k];
+        g = register::with_line(g, buyer, elevator, seller, lots as u32);
         ps = pairs::with_left(ps, p, has - lots);
         let left = drawn[k];
         drawn[k] = left - lots;

@@ -1,5 +1,5 @@
 -- Lists by number: what `listed` holds, and sums over the numbers below n, stated once over what is summed.
-use Rattle.numbers.proofs.Words.{ℕ, zero, suc, _+_, _-_, _≤_, _<_, add-zero, zero-add, not-suc-le-zero, le-of-suc-le-suc, arith, _≡_, refl, sym, ap, ap₂, _∙_, Bool, true, false, cond, List, [], _∷_, _++_, map, map-map, flatMap, ⊎-elim, eqb, length, getD, set, length-map, List·getD-eq-default, getD-set-same, getD-set-other, eq-eqb, ne-eqb, counted, listed, entry, less, pos, _+ℤ_, _-ℤ_, gathered, total, totalℤ}
+use Rattle.numbers.proofs.Words.{ℕ, zero, suc, _+_, _-_, _≤_, _<_, add-zero, zero-add, add-one, not-suc-le-zero, le-of-suc-le-suc, arith, _≡_, refl, sym, ap, ap₂, _∙_, Bool, true, false, cond, List, [], _∷_, _++_, map, map-map, map-append, flatMap, ⊎-elim, eqb, length, getD, set, length-map, length-set, List·getD-eq-default, getD-set-same, getD-set-other, eq-eqb, ne-eqb, counted, listed, entry, less, pos, _+ℤ_, _-ℤ_, gathered, total, totalℤ}
 use Rattle.numbers.proofs.Sums.{Addition, naturals, total-last, total-map, total-kept, total-difference, measured}
 use Rattle.numbers.proofs.Changed.{read-at}
 use Rattle.numbers.proofs.Tests.{same-or-not, below-or-not}
@@ -67,6 +67,25 @@ module _ {A : Type 0} (n : ℕ) (f : ℕ → A) where
 
   pub listed-past : (i : ℕ) (d : A) → n ≤ i → getD (listed n f) i d ≡ d
   listed-past i d h = getD-past (listed n f) i d (omega (arith, listed-length, h))
+
+-- one number more
+pub listed-more : {A : Type 0} (n : ℕ) (f : ℕ → A) → listed (suc n) f ≡ listed n f ++ (f n ∷ [])
+listed-more n f = ap (map f) (counted-more 0 n) ∙ map-append f (counted 0 n) ((0 + n) ∷ []) ∙ ap (λ (j : ℕ). listed n f ++ (f j ∷ [])) (zero-add n)
+
+-- an entry is written after those that stay, or in the place of one of them
+module _ {A : Type 0} (n : ℕ) (f g : ℕ → A) (x : A) where
+  pub listed-next : ((i : ℕ) → i < n → g i ≡ f i) → g n ≡ x → listed (n + 1) g ≡ listed n f ++ (x ∷ [])
+  listed-next same new =
+      ap (λ (m : ℕ). listed m g) (add-one n) ∙ listed-more n g ∙ ap₂ (λ (ys : List A) (y : A). ys ++ (y ∷ [])) (listed-same n g f same) new
+
+  pub listed-set : (p : ℕ) → p < n → ((i : ℕ) → i < n → (i ≡ p → ⊥) → g i ≡ f i) → g p ≡ x → set (listed n f) p x ≡ listed n g
+  listed-set p h same new =
+      listed-known n (set (listed n f) p x) x g (length-set (listed n f) p x ∙ listed-length n f)
+      (λ i l.
+      ⊎-elim
+      (λ (e : i ≡ p). ap (λ (j : ℕ). getD (set (listed n f) p x) j x) e ∙ getD-set-same (listed n f) p x x (omega (arith, h, listed-length n f)) ∙ sym new ∙ ap g (sym e))
+      (λ (e : i ≡ p → ⊥). getD-set-other (listed n f) p i x x e ∙ listed-at n f i x l ∙ sym (same i l e))
+      (same-or-not i p))
 
 -- what is left of an entry when some of it is taken
 pub less-at : (xs ys : List ℕ) (i : ℕ) → entry (less xs ys) i ≡ entry xs i - entry ys i

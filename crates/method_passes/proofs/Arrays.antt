@@ -1,0 +1,97 @@
+-- Pairs and lines in arrays: how many there are, which is at a place, one more, and a pair with lots left.
+use Rattle.numbers.proofs.Words.{ℕ, _+_, _-_, _≤_, _<_, arith, _≡_, refl, sym, ap, _∙_, List, [], _∷_, _++_, map, length, set, length-append, length-map, length-set, List·getD-map, getD-set-same, getD-set-other, map-set-same, entry, counted, listed}
+use Rattle.numbers.proofs.Ranges.{listed-length, listed-at, listed-next, listed-set}
+use Rattle.rules.specs.Expiry.Passes.{Pair, Line, pairOf, withLots}
+use Rattle.method_passes.specs.declared.{pairs.Pairs.Pairs, register.Register.Register}
+use Rattle.method_passes.specs.Formed.{pairsIn, pairLeft, linesIn, Known}
+
+abbrev noPair : Pair
+noPair = record { buyer = 0; elevator = 0; lots = 0 }
+
+module _ (ps : Pairs) where
+  abbrev pairIn : ℕ → Pair
+  pairIn k = record { buyer = entry (ps .buyers) k; elevator = entry (ps .elevators) k; lots = entry (ps .lots) k }
+
+  pub pairs-count : length (pairsIn ps) ≡ ps .count
+  pairs-count = listed-length (ps .count) pairIn
+
+  pub pair-at : (k : ℕ) → k < ps .count → pairOf (pairsIn ps) k ≡ record { buyer = entry (ps .buyers) k; elevator = entry (ps .elevators) k; lots = entry (ps .lots) k }
+  pair-at k h = listed-at (ps .count) pairIn k noPair h
+
+  -- their lots
+  abbrev pub lotsIn : List ℕ
+  lotsIn = map (λ (q : Pair). q .lots) (pairsIn ps)
+
+  pub lots-length : length lotsIn ≡ ps .count
+  lots-length = length-map (pairsIn ps) _ ∙ pairs-count
+
+  pub lots-at : (k : ℕ) → k < ps .count → entry lotsIn k ≡ entry (ps .lots) k
+  lots-at k h = List·getD-map (λ (q : Pair). q .lots) (pairsIn ps) k noPair ∙ ap (λ (q : Pair). q .lots) (pair-at k h)
+
+  pub known-buyer : (sections : ℕ) → Known (pairsIn ps) sections → (k : ℕ) → k < ps .count → entry (ps .buyers) k < sections
+  known-buyer sections known k h = omega (arith, ap (λ (q : Pair). q .buyer) (pair-at k h), known .buyer k (omega (arith, h, pairs-count)))
+
+  -- one pair more is written
+  pub pairs-more : (buyer elevator lots : ℕ) → ps .count < 160 → length (ps .buyers) ≡ 160 → length (ps .elevators) ≡ 160 → length (ps .lots) ≡ 160
+      → pairsIn (record { buyers = set (ps .buyers) (ps .count) buyer; elevators = set (ps .elevators) (ps .count) elevator; lots = set (ps .lots) (ps .count) lots; count = ps .count + 1 })
+      ≡ pairsIn ps ++ (record { buyer = buyer; elevator = elevator; lots = lots } ∷ [])
+  pairs-more buyer elevator lots room e e′ e″ =
+      let n = ps .count in
+      listed-next n pairIn _ _
+      (λ i l.
+      let other : i ≡ n → ⊥ = λ e. absurd (omega (arith, l, e)) in
+      rw (getD-set-other (ps .buyers) n i buyer 0 other, getD-set-other (ps .elevators) n i elevator 0 other, getD-set-other (ps .lots) n i lots 0 other))
+      (rw (getD-set-same (ps .buyers) n buyer 0 (omega (arith, room, e)), getD-set-same (ps .elevators) n elevator 0 (omega (arith, room, e′)), getD-set-same (ps .lots) n lots 0 (omega (arith, room, e″))))
+
+  -- a pair's lots are written anew
+  pub pairs-less : (p left : ℕ) → p < ps .count → ps .count ≤ 160 → length (ps .lots) ≡ 160
+      → pairsIn (record { buyers = ps .buyers; elevators = ps .elevators; lots = set (ps .lots) p left; count = ps .count }) ≡ pairLeft (pairsIn ps) p left
+  pairs-less p left below few e =
+      sym
+      (ap (λ (q : Pair). set (pairsIn ps) p (withLots q left)) (pair-at p below)
+      ∙ listed-set (ps .count) pairIn _ _ p below (λ i l other. rw (getD-set-other (ps .lots) p i left 0 other)) (rw (getD-set-same (ps .lots) p left 0 (omega (arith, below, few, e)))))
+
+-- so there is one more
+pub one-more-pair : (ps qs : Pairs) (q : Pair) → pairsIn qs ≡ pairsIn ps ++ (q ∷ []) → qs .count ≡ ps .count + 1
+one-more-pair ps qs q more = sym (pairs-count qs) ∙ ap length more ∙ length-append (pairsIn ps) (q ∷ []) ∙ ap (λ (n : ℕ). n + 1) (pairs-count ps)
+
+-- the pairs with lots left are of the same sections
+pub known-left : (ps : List Pair) (p left sections : ℕ) → Known ps sections → Known (pairLeft ps p left) sections
+known-left ps p left sections known =
+    let buyer : Pair → ℕ = λ (q : Pair). q .buyer in
+    let new = withLots (pairOf ps p) left in
+    record {
+      few = omega (arith, length-set ps p new, known .few);
+      buyer = λ k h.
+          omega (
+            arith,
+            List·getD-map buyer (set ps p new) k noPair,
+            ap (λ (bs : List ℕ). entry bs k) (map-set-same buyer ps p new noPair refl),
+            List·getD-map buyer ps k noPair,
+            known .buyer k (omega (arith, h, length-set ps p new)),
+          );
+    }
+
+module _ (g : Register) where
+  abbrev lineIn : ℕ → Line
+  lineIn k = record { buyer = entry (g .buyers) k; elevator = entry (g .elevators) k; seller = entry (g .sellers) k; lots = entry (g .lots) k }
+
+  pub lines-count : length (linesIn g) ≡ g .count
+  lines-count = listed-length (g .count) lineIn
+
+  -- one line more is written
+  pub lines-more : (buyer elevator seller lots : ℕ) → g .count < 382 → length (g .buyers) ≡ 382 → length (g .elevators) ≡ 382 → length (g .sellers) ≡ 382 → length (g .lots) ≡ 382
+      → linesIn (record { buyers = set (g .buyers) (g .count) buyer; elevators = set (g .elevators) (g .count) elevator; sellers = set (g .sellers) (g .count) seller; lots = set (g .lots) (g .count) lots; count = g .count + 1 })
+      ≡ linesIn g ++ (record { buyer = buyer; elevator = elevator; seller = seller; lots = lots } ∷ [])
+  lines-more buyer elevator seller lots room e e′ e″ e‴ =
+      let n = g .count in
+      listed-next n lineIn _ _
+      (λ i l.
+      let other : i ≡ n → ⊥ = λ e. absurd (omega (arith, l, e)) in
+      rw (getD-set-other (g .buyers) n i buyer 0 other, getD-set-other (g .elevators) n i elevator 0 other, getD-set-other (g .sellers) n i seller 0 other, getD-set-other (g .lots) n i lots 0 other))
+      (rw (
+        getD-set-same (g .buyers) n buyer 0 (omega (arith, room, e)),
+        getD-set-same (g .elevators) n elevator 0 (omega (arith, room, e′)),
+        getD-set-same (g .sellers) n seller 0 (omega (arith, room, e″)),
+        getD-set-same (g .lots) n lots 0 (omega (arith, room, e‴)),
+      ))

@@ -1,0 +1,6 @@
+pub mod Scan
+pub mod Offered
+pub mod Arrays
+pub mod Pairing
+pub mod Lining
+pub mod Agreed
