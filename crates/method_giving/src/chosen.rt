@@ -43,7 +43,7 @@ fn kept_if(test: bool, own: u64) -> u64
 // Step 3: the sections opposite to d (01, Expiry, 3.3).
 pub fn opposed_to(positions: &[i64], d: i64, lots: &[u64], out: &mut [u64])
     requires { ⌜ (length (now positions) ≡ length (now lots)) × (length (now out) ≡ length (now lots)) ⌝ }
-    ensures { λ _. ⌜ (ss : List Section) → now (positions .entry) ≡ positionsOf ss → now (out .exit) ≡ Expiry.chosen ss (λ (s : Section). Expiry.opposed (positionOf s) d) (now (lots .entry)) ⌝ }
+    ensures { λ _. ⌜ ((ss : List Section) → now (positions .entry) ≡ positionsOf ss → now (out .exit) ≡ Expiry.chosen ss (λ (s : Section). Expiry.opposed (positionOf s) d) (now (lots .entry))) ⌝ }
 {
     let held = lots.len();
     let mut i = 0;
@@ -60,7 +60,7 @@ pub fn opposed_to(positions: &[i64], d: i64, lots: &[u64], out: &mut [u64])
 pub fn on_side_in_codes(codes: &[u8], positions: &[i64], numbers: &[i64], same: bool, lots: &[u64], out: &mut [u64])
     requires { ⌜ (length (now codes) ≡ length (now lots)) × (length (now positions) ≡ length (now lots)) × (length (now out) ≡ length (now lots)) × (length (now numbers) ≡ 64) ⌝ }
     requires { ⌜ ((i : ℕ) → i < length (now codes) → entry (now codes) i < 64) ⌝ }
-    ensures { λ _. ⌜ (ss : List Section) → now (codes .entry) ≡ settlementsOf ss → now (positions .entry) ≡ positionsOf ss → now (out .exit) ≡ Expiry.chosen ss (λ (s : Section). onSide same (positionOf s) (entryℤ (now (numbers .entry)) (s .settlement))) (now (lots .entry)) ⌝ }
+    ensures { λ _. ⌜ ((ss : List Section) → now (codes .entry) ≡ settlementsOf ss → now (positions .entry) ≡ positionsOf ss → now (out .exit) ≡ Expiry.chosen ss (λ (s : Section). onSide same (positionOf s) (entryℤ (now (numbers .entry)) (s .settlement))) (now (lots .entry))) ⌝ }
 {
     let held = lots.len();
     let mut i = 0;

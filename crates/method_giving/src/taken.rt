@@ -10,7 +10,7 @@ pub fn give(codes: &[u8], order: &[usize], lots: &[u64], caps: &mut [u64], need:
     requires { ⌜ (length (now codes) ≡ length (now lots)) × (length (now given) ≡ length (now lots)) × (length (now caps) ≡ 64) ⌝ }
     requires { ⌜ ((k : ℕ) → k < length (now order) → entry (now order) k < length (now lots)) × ((i : ℕ) → i < length (now codes) → entry (now codes) i < 64) ⌝ }
     requires { ⌜ ((i : ℕ) → entry (now given) i ≤ entry (now lots) i) ⌝ }
-    ensures { λ _. ⌜ (ss : List Section) → now (codes .entry) ≡ settlementsOf ss → now (given .exit) ≡ takenFrom ss (now (order .entry)) (now (lots .entry)) (now (caps .entry)) need (now (given .entry)) ⌝ }
+    ensures { λ _. ⌜ ((ss : List Section) → now (codes .entry) ≡ settlementsOf ss → now (given .exit) ≡ takenFrom ss (now (order .entry)) (now (lots .entry)) (now (caps .entry)) need (now (given .entry))) ⌝ }
     ensures { λ _. ⌜ ((i : ℕ) → entry (now (given .exit)) i ≤ entry (now (lots .entry)) i) ⌝ }
 {
     let all = order.len();

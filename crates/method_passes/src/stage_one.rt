@@ -1,18 +1,12 @@
 // Stage one: pairs of buyers and elevators.
 ghost use Rattle.rules.specs.Words.{ℕ, _≡_, _+_, _≤_, _<_, length, entry};
 ghost use Rattle.rules.specs.Expiry.Passes;
-<<<<<<< HEAD
 ghost use Rattle.method_laws.specs.Columns.{byKey};
 ghost use Rattle.method_passes.specs.Formed.{pairsIn, Known};
 use crate::fullest;
 use crate::pairs;
 use crate::pairs::Pairs;
 use rules::limits::ELEVATORS;
-=======
-ghost use Rattle.method_passes.specs.Pairs.{pairsIn};
-use crate::largest;
-use rules::book::Book;
->>>>>>> giving
 use value::lots;
 
 // Entry i of a list, 0 past its end.
@@ -37,11 +31,7 @@ pub fn form_pairs(keys: &[u64], buyers: &mut [u64], stocks: &mut [u64]) -> Pairs
         let buyer = fullest::buyer(keys, buyers);
         let elevator = fullest::elevator(stocks);
         let has = read(buyers, buyer);
-<<<<<<< HEAD
         let stands = read(stocks, elevator);
-=======
-        let stands = read(elevators, elevator);
->>>>>>> giving
         let amount = lots::smaller(has, stands);
         if amount == 0 {
             break;

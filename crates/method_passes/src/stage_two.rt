@@ -5,14 +5,10 @@ ghost use Rattle.method_laws.specs.Columns.{byKey};
 ghost use Rattle.method_passes.specs.Formed.{pairsIn, linesIn, Known, Sold};
 use crate::fullest;
 use crate::offers;
-<<<<<<< HEAD
 use crate::pairs;
 use crate::pairs::Pairs;
 use crate::register;
 use crate::register::Register;
-=======
-use rules::book::Book;
->>>>>>> giving
 use value::lots;
 
 // How often lines are formed at most: never where there is no pair or no notice.
@@ -41,7 +37,6 @@ fn choose(keys: &[u64], ps: Pairs, sellers: &[u8], stands: &[u8], drawn: &[u64])
     ensures { λ r. ⌜ r .notice ≡ Passes.fullestNotice (byKey (now (keys .entry))) (now (sellers .entry)) (now (stands .entry)) (now (drawn .entry)) (entry (ps .elevators) (r .pair)) ⌝ }
     ensures { λ r. ⌜ r .lots ≡ min (entry (ps .lots) (r .pair)) (entry (Passes.offers (now (stands .entry)) (now (drawn .entry)) (entry (ps .elevators) (r .pair))) (r .notice)) ⌝ }
 {
-<<<<<<< HEAD
     let pair = fullest::pair(keys, ps);
     let elevator = ps.elevators[pair];
     let notice = fullest::notice(keys, sellers, stands, drawn, elevator);
@@ -65,19 +60,6 @@ pub fn form_lines(keys: &[u64], formed: Pairs, sellers: &[u8], stands: &[u8], dr
         let next = choose(keys, ps, sellers, stands, drawn);
         let lots = next.lots;
         if lots == 0 {
-=======
-    let turns = most_turns(count, b.filed);
-    let mut formed = 0;
-    while formed < turns {
-        let p = largest::pair(b, takers, stores, amounts, count);
-        let buyer = takers[p];
-        let elevator = stores[p];
-        let has = amounts[p];
-        let k = largest::notice(b, drawn, elevator);
-        let offered = offers::offer(b, drawn, elevator, k);
-        let amount = lots::smaller(has, offered);
-        if amount == 0 {
->>>>>>> giving
             break;
         }
         let p = next.pair;
