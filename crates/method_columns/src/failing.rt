@@ -1,5 +1,5 @@
 // Step 1: who fails.
-ghost use Rattle.rules.specs.Words.{ℕ, List, _≡_, true, not, _||_, _and_, _≤_, _<_, eqb, length, replicate, listed, entry};
+ghost use Rattle.rules.specs.Words.{ℕ, List, _≡_, true, not, cond, _||_, _and_, _≤_, _<_, eqb, length, replicate, listed, entry};
 ghost use Rattle.rules.specs.declared.book.Notice.{Notice};
 ghost use Rattle.rules.specs.Book.{good, heldSections, filedNotices, positionOf};
 ghost use Rattle.rules.specs.Expiry;
@@ -46,6 +46,7 @@ fn fails(s: Section, noticed: u64) -> bool
 
 // The lots of a section that fails, and 0 of a sound one.
 fn failed(s: Section, noticed: u64) -> u64
+    ensures { λ r. ⌜ r ≡ cond (not (s .met) || Expiry.isShort (positionOf s) and (not (s .seller) || not (eqb noticed (Expiry.size s)))) (Expiry.size s) 0 ⌝ }
 {
     if !fails(s, noticed) {
         return 0;
