@@ -57,7 +57,14 @@ pub fn opposed_to(positions: &[i64], d: i64, lots: &[u64], out: &mut [u64])
 }
 
 // Step 4: the sections on the side of their code's number; step 2: those on the other side, where `same` is false (01, Expiry, 2.2; 01, Expiry, 4.1).
-pub fn on_side_in_codes(codes: &[u8], positions: &[i64], numbers: &[i64], same: bool, lots: &[u64], out: &mut [u64])
+pub fn on_side_in_codes(
+    codes: &[u8],
+    positions: &[i64],
+    numbers: &[i64],
+    same: bool,
+    lots: &[u64],
+    out: &mut [u64],
+)
     requires { ⌜ (length (now codes) ≡ length (now lots)) × (length (now positions) ≡ length (now lots)) × (length (now out) ≡ length (now lots)) × (length (now numbers) ≡ 64) ⌝ }
     requires { ⌜ ((i : ℕ) → i < length (now codes) → entry (now codes) i < 64) ⌝ }
     ensures { λ _. ⌜ ((ss : List Section) → now (codes .entry) ≡ settlementsOf ss → now (positions .entry) ≡ positionsOf ss → now (out .exit) ≡ Expiry.chosen ss (λ (s : Section). onSide same (positionOf s) (entryℤ (now (numbers .entry)) (s .settlement))) (now (lots .entry))) ⌝ }

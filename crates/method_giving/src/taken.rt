@@ -6,7 +6,14 @@ ghost use Rattle.method_laws.specs.Giving.{takenFrom};
 use value::lots::smaller;
 
 // What each section of an order gives; `given` holds what was given before (01, Expiry, 2.2; 01, Expiry, 3.3).
-pub fn give(codes: &[u8], order: &[usize], lots: &[u64], caps: &mut [u64], need: u64, given: &mut [u64])
+pub fn give(
+    codes: &[u8],
+    order: &[usize],
+    lots: &[u64],
+    caps: &mut [u64],
+    need: u64,
+    given: &mut [u64],
+)
     requires { ⌜ (length (now codes) ≡ length (now lots)) × (length (now given) ≡ length (now lots)) × (length (now caps) ≡ 64) ⌝ }
     requires { ⌜ ((k : ℕ) → k < length (now order) → entry (now order) k < length (now lots)) × ((i : ℕ) → i < length (now codes) → entry (now codes) i < 64) ⌝ }
     requires { ⌜ ((i : ℕ) → entry (now given) i ≤ entry (now lots) i) ⌝ }

@@ -53,7 +53,14 @@ fn code_caps(d: i64, nets: &[i64], caps: &mut [u64])
 }
 
 // What each section gives towards d; `given` is noughts at first (01, Expiry, 3.3).
-pub fn give_across(codes: &[u8], positions: &[i64], keys: &[u64], d: i64, left: &[u64], given: &mut [u64])
+pub fn give_across(
+    codes: &[u8],
+    positions: &[i64],
+    keys: &[u64],
+    d: i64,
+    left: &[u64],
+    given: &mut [u64],
+)
     requires { ⌜ Held (now codes) (now positions) (now keys) (length (now left)) × (now given ≡ replicate (length (now left)) 0) × ((i : ℕ) → entry (now left) i ≤ 1_000_000) ⌝ }
     ensures { λ _. ⌜ ((ss : List Section) → Columns ss (now (codes .entry)) (now (positions .entry)) (now (keys .entry)) → now (given .exit) ≡ Across.givenAcross ss d (now (left .entry))) ⌝ }
 {
@@ -65,5 +72,14 @@ pub fn give_across(codes: &[u8], positions: &[i64], keys: &[u64], d: i64, left: 
     nets::nets(codes, positions, left, &mut net);
     code_caps(d, &net, &mut caps);
     let need = signed::size(d);
-    ordered::give(codes, positions, keys, &lots[..held], false, &mut caps, need, given);
+    ordered::give(
+        codes,
+        positions,
+        keys,
+        &lots[..held],
+        false,
+        &mut caps,
+        need,
+        given,
+    );
 }

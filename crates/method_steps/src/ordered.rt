@@ -9,7 +9,16 @@ use method_giving::taken;
 use rules::limits::SECTION_PLACES;
 
 // What each section gives, the smaller first, or the larger where `larger` says so; `given` is noughts at first (01, Expiry, 2.2; 01, Expiry, 4.1).
-pub fn give(codes: &[u8], positions: &[i64], keys: &[u64], lots: &[u64], larger: bool, caps: &mut [u64], need: u64, given: &mut [u64])
+pub fn give(
+    codes: &[u8],
+    positions: &[i64],
+    keys: &[u64],
+    lots: &[u64],
+    larger: bool,
+    caps: &mut [u64],
+    need: u64,
+    given: &mut [u64],
+)
     requires { ⌜ Held (now codes) (now positions) (now keys) (length (now lots)) × (now given ≡ replicate (length (now lots)) 0) × (length (now caps) ≡ 64) ⌝ }
     ensures { λ _. ⌜ ((ss : List Section) → Columns ss (now (codes .entry)) (now (positions .entry)) (now (keys .entry)) → now (given .exit) ≡ Giving.taken ss (Giving.inOrder (Giving.sooner larger) (lowerSectionCode ss) (now (lots .entry)) (length ss)) (now (lots .entry)) (now (caps .entry)) need) ⌝ }
     ensures { λ _. ⌜ ((i : ℕ) → entry (now (given .exit)) i ≤ entry (now (lots .entry)) i) ⌝ }

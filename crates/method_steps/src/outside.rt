@@ -25,5 +25,14 @@ pub fn outside(codes: &[u8], positions: &[i64], keys: &[u64], kept: &[u64], far:
     chosen::on_side_in_codes(codes, positions, &net, true, kept, &mut lots[..held]);
     lists::magnitudes(&net, &mut caps);
     let need = lists::sum(&caps);
-    ordered::give(codes, positions, keys, &lots[..held], true, &mut caps, need, far);
+    ordered::give(
+        codes,
+        positions,
+        keys,
+        &lots[..held],
+        true,
+        &mut caps,
+        need,
+        far,
+    );
 }
