@@ -15,3 +15,4 @@ pub mod Counts
 pub mod Orders
 pub mod Filled
 pub mod Put
+pub mod Tally
