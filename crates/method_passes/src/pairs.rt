@@ -14,12 +14,7 @@ pub struct Pairs {
 pub fn none() -> Pairs
     ensures { λ r. ⌜ pairsIn r ≡ [] ⌝ }
 {
-    Pairs {
-        buyers: [0; PAIR_PLACES],
-        elevators: [0; PAIR_PLACES],
-        lots: [0; PAIR_PLACES],
-        count: 0,
-    }
+    Pairs { buyers: [0; PAIR_PLACES], elevators: [0; PAIR_PLACES], lots: [0; PAIR_PLACES], count: 0 }
 }
 
 // One pair more.

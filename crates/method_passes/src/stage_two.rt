@@ -43,22 +43,11 @@ fn choose(keys: &[u64], ps: Pairs, sellers: &[u8], stands: &[u8], drawn: &[u64])
     let has = ps.lots[pair];
     let offered = offers::offer(stands, drawn, elevator, notice);
     let lots = lots::smaller(has, offered);
-    Choice {
-        pair: pair,
-        notice: notice,
-        lots: lots,
-    }
+    Choice { pair: pair, notice: notice, lots: lots }
 }
 
 // The lines that pairs and what is drawn of the notices form, after those that the register has (01, Expiry, 6.3).
-pub fn form_lines(
-    keys: &[u64],
-    formed: Pairs,
-    sellers: &[u8],
-    stands: &[u8],
-    drawn: &mut [u64],
-    before: Register,
-) -> Register
+pub fn form_lines(keys: &[u64], formed: Pairs, sellers: &[u8], stands: &[u8], drawn: &mut [u64], before: Register) -> Register
     requires { ⌜ Known formed (length (now keys)) × Sold (now sellers) (now stands) (now drawn) (length (now keys)) ⌝ }
     requires { ⌜ before .count + length (Passes.stageTwo (byKey (now keys)) (now sellers) (now stands) (formed .count + length (now stands)) (pairsIn formed) (now drawn)) ≤ 382 ⌝ }
     ensures { λ r. ⌜ linesIn r ≡ linesIn before ++ Passes.stageTwo (byKey (now (keys .entry))) (now (sellers .entry)) (now (stands .entry)) (formed .count + length (now (stands .entry))) (pairsIn formed) (now (drawn .entry)) ⌝ }
