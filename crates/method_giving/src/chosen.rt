@@ -1,10 +1,10 @@
 // The lots of the sections that a step takes, and 0 for all others.
-ghost use Rattle.rules.specs.Words.{_≡_, true, cond, ℕ, length, entryℤ};
+ghost use Rattle.rules.specs.Words.{ℕ, List, _≡_, _<_, cond, length, entry, entryℤ};
 ghost use Rattle.rules.specs.declared.book.Section.{Section};
-ghost use Rattle.rules.specs.Book.{good, heldSections, positionOf};
+ghost use Rattle.rules.specs.Book.{positionOf};
 ghost use Rattle.rules.specs.Expiry;
+ghost use Rattle.method_laws.specs.Columns.{settlementsOf, positionsOf};
 ghost use Rattle.method_laws.specs.Giving.{onSide};
-use rules::book::Book;
 
 // Whether two numbers are on opposite sides.
 pub fn opposed(x: i64, y: i64) -> bool
@@ -40,16 +40,15 @@ fn kept_if(test: bool, own: u64) -> u64
     0
 }
 
-// Step 3: the sections opposite to d.
-pub fn opposed_to(b: Book, d: i64, lots: &[u64], out: &mut [u64])
-    requires { ⌜ (good b ≡ true) × (length (now lots) ≡ b .held) × (length (now out) ≡ b .held) ⌝ }
-    ensures { λ _. ⌜ now (out .exit) ≡ Expiry.chosen (heldSections b) (λ (s : Section). Expiry.opposed (positionOf s) d) (now (lots .entry)) ⌝ }
+// Step 3: the sections opposite to d (01, Expiry, 3.3).
+pub fn opposed_to(positions: &[i64], d: i64, lots: &[u64], out: &mut [u64])
+    requires { ⌜ (length (now positions) ≡ length (now lots)) × (length (now out) ≡ length (now lots)) ⌝ }
+    ensures { λ _. ⌜ ((ss : List Section) → now (positions .entry) ≡ positionsOf ss → now (out .exit) ≡ Expiry.chosen ss (λ (s : Section). Expiry.opposed (positionOf s) d) (now (lots .entry))) ⌝ }
 {
-    let held = b.held;
+    let held = lots.len();
     let mut i = 0;
     while i < held {
-        let s = b.sections[i];
-        let position = s.position.0;
+        let position = positions[i];
         let test = opposed(position, d);
         let own = lots[i];
         out[i] = kept_if(test, own);
@@ -57,17 +56,24 @@ pub fn opposed_to(b: Book, d: i64, lots: &[u64], out: &mut [u64])
     }
 }
 
-// Step 4: the sections on the side of their code's number; step 2: those on the other side, where `same` is false.
-pub fn on_side_in_codes(b: Book, numbers: &[i64], same: bool, lots: &[u64], out: &mut [u64])
-    requires { ⌜ (good b ≡ true) × (length (now lots) ≡ b .held) × (length (now out) ≡ b .held) × (length (now numbers) ≡ 64) ⌝ }
-    ensures { λ _. ⌜ now (out .exit) ≡ Expiry.chosen (heldSections b) (λ (s : Section). onSide same (positionOf s) (entryℤ (now (numbers .entry)) (s .settlement))) (now (lots .entry)) ⌝ }
+// Step 4: the sections on the side of their code's number; step 2: those on the other side, where `same` is false (01, Expiry, 2.2; 01, Expiry, 4.1).
+pub fn on_side_in_codes(
+    codes: &[u8],
+    positions: &[i64],
+    numbers: &[i64],
+    same: bool,
+    lots: &[u64],
+    out: &mut [u64],
+)
+    requires { ⌜ (length (now codes) ≡ length (now lots)) × (length (now positions) ≡ length (now lots)) × (length (now out) ≡ length (now lots)) × (length (now numbers) ≡ 64) ⌝ }
+    requires { ⌜ ((i : ℕ) → i < length (now codes) → entry (now codes) i < 64) ⌝ }
+    ensures { λ _. ⌜ ((ss : List Section) → now (codes .entry) ≡ settlementsOf ss → now (positions .entry) ≡ positionsOf ss → now (out .exit) ≡ Expiry.chosen ss (λ (s : Section). onSide same (positionOf s) (entryℤ (now (numbers .entry)) (s .settlement))) (now (lots .entry))) ⌝ }
 {
-    let held = b.held;
+    let held = lots.len();
     let mut i = 0;
     while i < held {
-        let s = b.sections[i];
-        let position = s.position.0;
-        let c = s.settlement as usize;
+        let position = positions[i];
+        let c = codes[i] as usize;
         let number = numbers[c];
         let test = on_side(same, position, number);
         let own = lots[i];

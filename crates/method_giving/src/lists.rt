@@ -1,11 +1,21 @@
 // Lists of lots.
-ghost use Rattle.rules.specs.Words.{_≡_, map, ℕ, _≤_, length, natAbs, entry, total};
+ghost use Rattle.rules.specs.Words.{_≡_, map, ℕ, _≤_, _-_, length, natAbs, entry, total};
 ghost use Rattle.numbers.specs.Lists as Lists;
 use value::signed;
 
+// What is left of some lots, 0 where more is taken.
+fn left(own: u64, gone: u64) -> u64
+    ensures { λ r. ⌜ r ≡ own - gone ⌝ }
+{
+    if own < gone {
+        return 0;
+    }
+    own - gone
+}
+
 // What is left of each entry when some of it is taken.
 pub fn less(lots: &mut [u64], taken: &[u64])
-    requires { ⌜ (length (now taken) ≡ length (now lots)) × ((i : ℕ) → entry (now taken) i ≤ entry (now lots) i) ⌝ }
+    requires { ⌜ length (now taken) ≡ length (now lots) ⌝ }
     ensures { λ _. ⌜ now (lots .exit) ≡ Lists.less (now (lots .entry)) (now (taken .entry)) ⌝ }
 {
     let all = taken.len();
@@ -13,7 +23,7 @@ pub fn less(lots: &mut [u64], taken: &[u64])
     while i < all {
         let own = lots[i];
         let gone = taken[i];
-        lots[i] = own - gone;
+        lots[i] = left(own, gone);
         i += 1;
     }
 }

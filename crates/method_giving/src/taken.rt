@@ -1,32 +1,31 @@
 // Sections of an order give what they have, while their code's cap and the whole need last.
-ghost use Rattle.rules.specs.Words.{_≡_, true, ℕ, _≤_, _<_, min, length, entry};
-ghost use Rattle.rules.specs.Book.{good, heldSections};
+ghost use Rattle.rules.specs.Words.{ℕ, List, _≡_, _≤_, _<_, length, entry};
+ghost use Rattle.rules.specs.declared.book.Section.{Section};
+ghost use Rattle.method_laws.specs.Columns.{settlementsOf};
 ghost use Rattle.method_laws.specs.Giving.{takenFrom};
-use rules::book::Book;
+use value::lots::smaller;
 
-// The smaller of two numbers.
-pub fn smaller(x: u64, y: u64) -> u64
-    ensures { λ r. ⌜ r ≡ min x y ⌝ }
-{
-    if x < y {
-        return x;
-    }
-    y
-}
-
-// What each section of an order gives; `given` holds what was given before.
-pub fn give(b: Book, order: &[usize], lots: &[u64], caps: &mut [u64], need: u64, given: &mut [u64])
-    requires { ⌜ (good b ≡ true) × (length (now lots) ≡ b .held) × (length (now given) ≡ b .held) × (length (now caps) ≡ 64) ⌝ }
-    requires { ⌜ ((k : ℕ) → k < length (now order) → entry (now order) k < b .held) ⌝ }
-    ensures { λ _. ⌜ now (given .exit) ≡ takenFrom (heldSections b) (now (order .entry)) (now (lots .entry)) (now (caps .entry)) need (now (given .entry)) ⌝ }
+// What each section of an order gives; `given` holds what was given before (01, Expiry, 2.2; 01, Expiry, 3.3).
+pub fn give(
+    codes: &[u8],
+    order: &[usize],
+    lots: &[u64],
+    caps: &mut [u64],
+    need: u64,
+    given: &mut [u64],
+)
+    requires { ⌜ (length (now codes) ≡ length (now lots)) × (length (now given) ≡ length (now lots)) × (length (now caps) ≡ 64) ⌝ }
+    requires { ⌜ ((k : ℕ) → k < length (now order) → entry (now order) k < length (now lots)) × ((i : ℕ) → i < length (now codes) → entry (now codes) i < 64) ⌝ }
+    requires { ⌜ ((i : ℕ) → entry (now given) i ≤ entry (now lots) i) ⌝ }
+    ensures { λ _. ⌜ ((ss : List Section) → now (codes .entry) ≡ settlementsOf ss → now (given .exit) ≡ takenFrom ss (now (order .entry)) (now (lots .entry)) (now (caps .entry)) need (now (given .entry))) ⌝ }
+    ensures { λ _. ⌜ ((i : ℕ) → entry (now (given .exit)) i ≤ entry (now (lots .entry)) i) ⌝ }
 {
     let all = order.len();
     let mut left = need;
     let mut k = 0;
     while k < all {
         let i = order[k];
-        let s = b.sections[i];
-        let c = s.settlement as usize;
+        let c = codes[i] as usize;
         let cap = caps[c];
         let own = lots[i];
         let within = smaller(cap, left);

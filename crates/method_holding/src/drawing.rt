@@ -1,45 +1,42 @@
 // Step 5: what is drawn of the notices.
-ghost use Rattle.rules.specs.Words.{_≡_, true, _<_, length, entry};
-ghost use Rattle.rules.specs.Book.{good, heldSections, filedNotices};
+ghost use Rattle.rules.specs.Words.{ℕ, List, _≡_, _≤_, _<_, _-_, min, cond, length, entry};
+ghost use Rattle.rules.specs.declared.book.{Section.Section, Notice.Notice};
+ghost use Rattle.rules.specs.Expiry;
 ghost use Rattle.rules.specs.Expiry.Drawing;
-use crate::notices;
-use rules::book::Book;
-use value::lots;
-use value::signed;
+ghost use Rattle.method_laws.specs.Columns.{positionsOf, noticeLotsIn};
+ghost use Rattle.rules.specs.Expiry.Passes.{sellersIn};
+use rules::limits::SECTION_PLACES;
+use value::lots::smaller;
 
-// What notice k has of its section's first lots, after those filed before it.
-fn share(b: Book, k: usize, first: &[u64]) -> u64
-    requires { ⌜ (good b ≡ true) × (k < b .filed) × (length (now first) ≡ b .held) ⌝ }
-    ensures { λ r. ⌜ r ≡ entry (Drawing.drawn (heldSections b) (filedNotices b) (now (first .entry))) k ⌝ }
+// What a notice of a short section has of the section's first lots, after those filed before it.
+fn share(position: i64, own: u64, first: u64, before: u64) -> u64
+    ensures { λ r. ⌜ r ≡ cond (Expiry.isShort position) (min own (first - before)) 0 ⌝ }
 {
-    let n = b.notices[k];
-    let section = n.section;
-    let i = section as usize;
-    let s = b.sections[i];
-    let position = s.position.0;
     if 0 <= position {
         return 0;
     }
-    let own = n.lots.0;
-    let size = signed::size(own);
-    let before = notices::noticed(b, k, section);
-    let all = first[i];
-    if all < before {
+    if first < before {
         return 0;
     }
-    lots::smaller(size, all - before)
+    smaller(own, first - before)
 }
 
-// What each notice has of its section's first lots.
-pub fn drawn(b: Book, first: &[u64], out: &mut [u64])
-    requires { ⌜ (good b ≡ true) × (length (now first) ≡ b .held) ⌝ }
-    requires { ⌜ length (now out) ≡ b .filed ⌝ }
-    ensures { λ _. ⌜ now (out .exit) ≡ Drawing.drawn (heldSections b) (filedNotices b) (now (first .entry)) ⌝ }
+// What each notice has of its section's first lots, in one walk over the notices (01, Expiry, 5.1; 01, Expiry, 6.5).
+pub fn drawn(positions: &[i64], sellers: &[u8], lots: &[u64], first: &[u64], out: &mut [u64])
+    requires { ⌜ (length (now positions) ≤ 128) × (length (now first) ≡ length (now positions)) × (length (now sellers) ≤ 256) × (length (now lots) ≡ length (now sellers)) × (length (now out) ≡ length (now sellers)) ⌝ }
+    requires { ⌜ ((k : ℕ) → k < length (now sellers) → entry (now sellers) k < length (now positions)) × ((k : ℕ) → entry (now lots) k ≤ 1_000_000) ⌝ }
+    ensures { λ _. ⌜ ((ss : List Section) (ns : List Notice) → now (positions .entry) ≡ positionsOf ss → now (sellers .entry) ≡ sellersIn ns → now (lots .entry) ≡ noticeLotsIn ns → now (out .exit) ≡ Drawing.drawn ss ns (now (first .entry))) ⌝ }
+    ensures { λ _. ⌜ ((k : ℕ) → entry (now (out .exit)) k ≤ 1_000_000) ⌝ }
 {
-    let filed = b.filed;
+    let filed = sellers.len();
+    let mut before = [0; SECTION_PLACES];
     let mut k = 0;
     while k < filed {
-        out[k] = share(b, k, first);
+        let i = sellers[k] as usize;
+        let own = lots[k];
+        let used = before[i];
+        out[k] = share(positions[i], own, first[i], used);
+        before[i] = used + own;
         k += 1;
     }
 }

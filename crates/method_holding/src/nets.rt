@@ -1,54 +1,37 @@
-// The net of a code's lots.
-ghost use Rattle.rules.specs.Words.{_≡_, true, cond, ℕ, _≤_, eqb, pos, length, entry, listed};
-ghost use Rattle.rules.specs.Book.{good, heldSections, positionOf};
+// The net of each settlement code's lots.
+ghost use Rattle.rules.specs.Words.{ℕ, List, _≡_, _≤_, _<_, length, replicate, natAbs, pos, listed, entry, entryℤ};
+ghost use Rattle.rules.specs.declared.book.Section.{Section};
 ghost use Rattle.rules.specs.Expiry;
-use rules::book::Book;
-use rules::book::Section;
+ghost use Rattle.method_laws.specs.Columns.{settlementsOf, positionsOf};
 use value::signed;
 
-// What a section's lots add to the net of a code.
-fn adding(s: Section, own: u64, code: u8) -> i64
+// Lots with the sign of a position.
+fn on_side_of(position: i64, own: u64) -> i64
     requires { ⌜ own ≤ 1_000_000 ⌝ }
-    ensures { λ r. ⌜ r ≡ cond (eqb (s .settlement) code) (Expiry.onSideOf (positionOf s) own) (pos 0) ⌝ }
+    ensures { λ r. ⌜ r ≡ Expiry.onSideOf position own ⌝ }
 {
-    if s.settlement != code {
-        return 0;
-    }
     let lots = own as i64;
-    let position = s.position.0;
     if position < 0 {
         return signed::difference(0, lots);
     }
     lots
 }
 
-// The net of the lots of a code's sections.
-pub fn net_of_code(b: Book, lots: &[u64], code: u8) -> i64
-    requires { ⌜ (good b ≡ true) × (length (now lots) ≡ b .held) × ((i : ℕ) → entry (now lots) i ≤ 1_000_000) ⌝ }
-    ensures { λ r. ⌜ r ≡ Expiry.netOfCode (heldSections b) (now (lots .entry)) code ⌝ }
+// The net of each code, in one walk over the sections; `out` is noughts at first (01, Expiry, 2.1).
+pub fn nets(codes: &[u8], positions: &[i64], lots: &[u64], out: &mut [i64])
+    requires { ⌜ (length (now codes) ≡ length (now lots)) × (length (now positions) ≡ length (now lots)) × (length (now lots) ≤ 128) × (now out ≡ replicate 64 (pos 0)) ⌝ }
+    requires { ⌜ ((i : ℕ) → i < length (now codes) → entry (now codes) i < 64) × ((i : ℕ) → entry (now lots) i ≤ 1_000_000) ⌝ }
+    ensures { λ _. ⌜ ((ss : List Section) → now (codes .entry) ≡ settlementsOf ss → now (positions .entry) ≡ positionsOf ss → now (out .exit) ≡ listed 64 (Expiry.netOfCode ss (now (lots .entry)))) ⌝ }
+    ensures { λ _. ⌜ (length (now (out .exit)) ≡ 64) × ((c : ℕ) → natAbs (entryℤ (now (out .exit)) c) ≤ 128_000_000) ⌝ }
 {
-    let held = b.held;
-    let mut net: i64 = 0;
+    let held = lots.len();
     let mut i = 0;
     while i < held {
-        let s = b.sections[i];
+        let c = codes[i] as usize;
+        let position = positions[i];
         let own = lots[i];
-        net = signed::sum(net, adding(s, own, code));
+        let net = out[c];
+        out[c] = signed::sum(net, on_side_of(position, own));
         i += 1;
-    }
-    net
-}
-
-// The net of each code.
-pub fn nets(b: Book, lots: &[u64], out: &mut [i64])
-    requires { ⌜ (good b ≡ true) × (length (now lots) ≡ b .held) × ((i : ℕ) → entry (now lots) i ≤ 1_000_000) ⌝ }
-    requires { ⌜ length (now out) ≡ 64 ⌝ }
-    ensures { λ _. ⌜ now (out .exit) ≡ listed 64 (Expiry.netOfCode (heldSections b) (now (lots .entry))) ⌝ }
-{
-    let mut c = 0;
-    while c < 64 {
-        let code = c as u8;
-        out[c] = net_of_code(b, lots, code);
-        c += 1;
     }
 }

@@ -12,3 +12,4 @@ pub mod Register
 pub mod Count
 pub mod Inside
 pub mod Delivery
+pub mod Columns

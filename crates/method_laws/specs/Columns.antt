@@ -1,6 +1,7 @@
 -- What the method's code reads of the sections held and of the notices filed: columns, a list of numbers each. Contracts speak of every list of sections, or of
 -- notices, that has these columns.
 use Rattle.rules.specs.Words.{ℕ, _<_, _≡_, Bool, List, map, length, ltb, ℤ, natAbs, entry}
+use Rattle.numbers.specs.Bytes.{bigEndian}
 use Rattle.rules.specs.declared.book.{Section.Section, Notice.Notice}
 use Rattle.rules.specs.Book.{positionOf}
 use Rattle.rules.specs.Expiry.{lowerSectionCode}
@@ -13,7 +14,10 @@ settlementsOf = map (λ (s : Section). s .settlement)
 abbrev pub positionsOf : List Section → List ℤ
 positionsOf = map positionOf
 
--- and keys, numbers that tell which of two section codes is lower
+-- and the keys of the section codes, their bytes as one number: of two codes the lower has the lower key
+abbrev pub keysOf : List Section → List ℕ
+keysOf = map (λ (s : Section). bigEndian (s .code))
+
 abbrev pub byKey : List ℕ → ℕ → ℕ → Bool
 byKey keys i j = ltb (entry keys i) (entry keys j)
 

@@ -1,4 +1,4 @@
-// Steps 1 to 4 of the method: what is delivered and terminated, and what of it goes outside.
+// Steps 1 to 4 of the method on columns: what is delivered and terminated, and what of it goes outside.
 pub mod across;
 pub mod codes;
 pub mod delivered;

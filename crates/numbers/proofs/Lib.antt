@@ -7,6 +7,7 @@ pub mod Whole
 pub mod Sums
 pub mod Bytes
 pub mod Little
+pub mod Keys
 pub mod Cells
 pub mod Ranges
 pub mod Entries
@@ -14,3 +15,4 @@ pub mod Counts
 pub mod Orders
 pub mod Filled
 pub mod Put
+pub mod Tally

@@ -1,0 +1,70 @@
+// Step 1: who fails.
+ghost use Rattle.rules.specs.Words.{ℕ, List, _≡_, true, not, cond, _||_, _and_, _≤_, _<_, eqb, length, replicate, listed, entry};
+ghost use Rattle.rules.specs.declared.book.Notice.{Notice};
+ghost use Rattle.rules.specs.Book.{good, heldSections, filedNotices, positionOf};
+ghost use Rattle.rules.specs.Expiry;
+ghost use Rattle.rules.specs.Expiry.Failing;
+ghost use Rattle.rules.specs.Expiry.Passes.{sellersIn};
+ghost use Rattle.method_laws.specs.Columns.{noticeLotsIn};
+use rules::book::Book;
+use rules::book::Section;
+use value::signed;
+
+// The lots of each section's notices, in one walk over the notices; `sums` is noughts at first (01, Expiry, 1.1).
+pub fn noticed(sellers: &[u8], lots: &[u64], sums: &mut [u64])
+    requires { ⌜ (length (now sellers) ≤ 256) × (length (now lots) ≡ length (now sellers)) × (now sums ≡ replicate (length (now sums)) 0) ⌝ }
+    requires { ⌜ ((k : ℕ) → k < length (now sellers) → entry (now sellers) k < length (now sums)) × ((k : ℕ) → entry (now lots) k ≤ 1_000_000) ⌝ }
+    ensures { λ _. ⌜ ((ns : List Notice) → now (sellers .entry) ≡ sellersIn ns → now (lots .entry) ≡ noticeLotsIn ns → now (sums .exit) ≡ listed (length (now (sums .entry))) (Failing.noticed ns)) ⌝ }
+{
+    let filed = sellers.len();
+    let mut k = 0;
+    while k < filed {
+        let i = sellers[k] as usize;
+        let own = lots[k];
+        let before = sums[i];
+        sums[i] = before + own;
+        k += 1;
+    }
+}
+
+// Whether a section with so many lots in its notices fails (01, Expiry, 1.1).
+fn fails(s: Section, noticed: u64) -> bool
+    ensures { λ r. ⌜ r ≡ (not (s .met) || Expiry.isShort (positionOf s) and (not (s .seller) || not (eqb noticed (Expiry.size s)))) ⌝ }
+{
+    if !s.met {
+        return true;
+    }
+    let position = s.position.0;
+    if 0 <= position {
+        return false;
+    }
+    if !s.seller {
+        return true;
+    }
+    noticed != signed::size(position)
+}
+
+// The lots of a section that fails, and 0 of a sound one.
+fn failed(s: Section, noticed: u64) -> u64
+    ensures { λ r. ⌜ r ≡ cond (not (s .met) || Expiry.isShort (positionOf s) and (not (s .seller) || not (eqb noticed (Expiry.size s)))) (Expiry.size s) 0 ⌝ }
+{
+    if !fails(s, noticed) {
+        return 0;
+    }
+    let position = s.position.0;
+    signed::size(position)
+}
+
+// The lots of the failing sections, and 0 for the sound, given the lots of each section's notices (01, Expiry, 1.2).
+pub fn failing(b: Book, sums: &[u64], lots: &mut [u64])
+    requires { ⌜ (good b ≡ true) × (length (now lots) ≡ b .held) × (now sums ≡ listed (b .held) (Failing.noticed (filedNotices b))) ⌝ }
+    ensures { λ _. ⌜ now (lots .exit) ≡ Failing.failing (heldSections b) (filedNotices b) ⌝ }
+{
+    let held = b.held;
+    let mut i = 0;
+    while i < held {
+        let s = b.sections[i];
+        lots[i] = failed(s, sums[i]);
+        i += 1;
+    }
+}
