@@ -1,7 +1,7 @@
 -- Lists of natural numbers by their entries: an entry and the sum, noughts, and some taken off one entry.
-use Rattle.numbers.proofs.Words.{ℕ, _+_, _-_, _≤_, _<_, arith, _≡_, sym, ap, _∙_, cond, List, ⊎-elim, eqb, length, set, replicate, length-replicate, getD-replicate, getD-set-same, getD-set-other, set-out, entry, total}
+use Rattle.numbers.proofs.Words.{ℕ, _+_, _-_, _≤_, _<_, arith, _≡_, sym, ap, _∙_, cond, List, ⊎-elim, eqb, length, set, replicate, length-set, length-replicate, getD-replicate, getD-set-same, getD-set-other, set-out, entry, total}
 use Rattle.numbers.proofs.Sums.{naturals, total-set}
-use Rattle.numbers.proofs.Ranges.{getD-past, chosen-yes, chosen-no, sum-nothing, sum-part, total-entries}
+use Rattle.numbers.proofs.Ranges.{Left, getD-past, chosen-yes, chosen-no, sum-nothing, sum-part, total-entries}
 use Rattle.numbers.proofs.Tests.{below-or-not, same-or-not}
 
 module _ (xs : List ℕ) where
@@ -28,6 +28,17 @@ noughts-at n = none-past (replicate n 0) (λ i h. getD-replicate n i 0 0 (omega 
 
 pub noughts-total : (n : ℕ) → total (replicate n 0) ≡ 0
 noughts-total n = none-total (replicate n 0) (λ i h. noughts-at n i)
+
+-- one entry is changed and stays within
+pub left-set : (all left : List ℕ) (i n : ℕ) → i < length left → n ≤ entry all i → Left all left → Left all (set left i n)
+left-set all left i n place le h =
+    record {
+      long = length-set left i n ∙ h .long;
+      within = λ j.
+          ⊎-elim (λ (e : j ≡ i). omega (arith, le, ap (entry (set left i n)) e, ap (entry all) e, getD-set-same left i n 0 place))
+          (λ (e : j ≡ i → ⊥). omega (arith, getD-set-other left i j n 0 e, h .within j))
+          (same-or-not j i);
+    }
 
 -- some is taken off one entry
 module _ (xs : List ℕ) (i some : ℕ) (within : some ≤ entry xs i) where

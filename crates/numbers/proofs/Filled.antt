@@ -46,5 +46,8 @@ module _ {A : Type 0} {f : ℕ → A} {was now : List A} {i : ℕ} (filled : Fil
   pub filled-next : i < length was → (x : A) → x ≡ f i → Filled f was (set now i x) (i + 1)
   filled-next h x e = record { within = omega (arith, h); entries = ap₂ (λ (l : List A) (y : A). set l i y) (filled .entries) e ∙ partly-next f was i h }
 
+  pub filled-here : i < length was → (d : A) → getD now i d ≡ getD was i d
+  filled-here h d = ap (λ (l : List A). getD l i d) (filled .entries) ∙ partly-here f was i d h
+
   pub filled-end : length was ≤ i → (n : ℕ) → length was ≡ n → now ≡ listed n f
   filled-end past n e = filled .entries ∙ partly-end f was i past ∙ ap (λ (m : ℕ). listed m f) (omega (arith, past, e, filled .within))
