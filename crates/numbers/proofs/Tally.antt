@@ -1,8 +1,8 @@
 -- Entries added up by class in one walk: entry e of the tally is the sum of what the first k numbers have in class e.
-use Rattle.numbers.proofs.Words.{ℕ, suc, _+_, _<_, add-one, arith, _≡_, refl, sym, ap, _∙_, cond, eqb, List, length, getD, set, replicate, length-set, length-replicate, getD-replicate, getD-set-same, getD-set-other, ⊎-elim, counted, listed, gathered}
+use Rattle.numbers.proofs.Words.{ℕ, zero, suc, _+_, _*_, _≤_, _<_, add-one, arith, _≡_, refl, sym, ap, _∙_, Bool, true, false, cond, eqb, List, length, getD, set, replicate, length-set, length-replicate, getD-replicate, getD-set-same, getD-set-other, ⊎-elim, counted, listed, gathered}
 use Rattle.numbers.proofs.Sums.{Addition}
-use Rattle.numbers.proofs.Ranges.{listed-length, listed-at, listed-known, chosen-yes, chosen-no, sum-more}
-use Rattle.numbers.proofs.Tests.{same-or-not}
+use Rattle.numbers.proofs.Ranges.{listed-length, listed-at, listed-past, listed-known, chosen-yes, chosen-no, sum-more}
+use Rattle.numbers.proofs.Tests.{same-or-not, below-or-not}
 
 module _ {A : Type 0} (join : A → A → A) (none : A) (add : Addition join none) (classOf : ℕ → ℕ) (has : ℕ → A) (n : ℕ) where
   abbrev pub inClass : ℕ → ℕ → A
@@ -46,3 +46,28 @@ module _ {A : Type 0} (join : A → A → A) (none : A) (add : Addition join non
       ∙ sym (ap (join (inClass k c)) (chosen-no (classOf k) c (has k) none (λ f. s (sym f))))
       ∙ sym (class-more k c))
       (same-or-not c (classOf k)))
+
+  -- where no number has more than a limit, no entry has more than that for each number passed
+  module _ (size : A → ℕ) (nothing : size none ≡ 0) (adds : (x y : A) → size (join x y) ≤ size x + size y) (limit : ℕ) (small : (j : ℕ) → size (has j) ≤ limit) where
+    one-within : (t : Bool) (j : ℕ) → size (cond t (has j) none) ≤ limit
+    one-within true j = small j
+    one-within false j = omega (arith, nothing)
+
+    class-within : (k e : ℕ) → size (inClass k e) ≤ limit * k
+    unfolding counted gathered
+    class-within zero e = omega (arith, nothing)
+    class-within (suc k) e =
+        let one = cond (eqb (classOf k) e) (has k) none in
+        omega (
+          arith,
+          ap size (sum-more join none add k (λ (j : ℕ). cond (eqb (classOf j) e) (has j) none)),
+          adds (inClass k e) one,
+          class-within k e,
+          one-within (eqb (classOf k) e) k,
+        )
+
+    pub tally-within : (k e : ℕ) → size (getD (tally k) e none) ≤ limit * k
+    tally-within k e =
+        ⊎-elim (λ (h : e < n). omega (arith, ap size (tally-at k e h), class-within k e))
+        (λ (h : n ≤ e). omega (arith, ap size (listed-past n (inClass k) e none h), nothing))
+        (below-or-not e n)
