@@ -1,11 +1,15 @@
--- What the columns of sections say of them.
-use Rattle.numbers.proofs.Words.{ℕ, arith, _≡_, sym, ap, _∙_, Bool, _||_, List, [], length, length-map, List·getD-map, eqb, ltb-false, ℤ, _and_, entry, entryℤ}
-use Rattle.rules.specs.declared.book.{Section.Section}
+-- What the columns of sections and of notices say of them.
+use Rattle.numbers.proofs.Words.{ℕ, _≤_, arith, _≡_, sym, ap, ap₂, _∙_, Bool, _||_, List, [], length, length-map, length-take-le, getD-take, take, List·getD-map, eqb, ltb-false, ℤ, natAbs, cond, _+_, _and_, listed, entry, entryℤ, total}
+use Rattle.rules.specs.declared.book.{Section.Section, Notice.Notice}
 use Rattle.numbers.proofs.Bytes.{before-self, before-trans}
 use Rattle.numbers.proofs.Orders.{ordered-same}
-use Rattle.rules.specs.Book.{positionOf, sectionOf, sectionOfNoughts}
+use Rattle.numbers.proofs.Sums.{naturals}
+use Rattle.numbers.proofs.Ranges.{listed-read, sum-same}
+use Rattle.rules.specs.Book.{positionOf, sectionOf, sectionOfNoughts, noticeOf, blankNotice}
 use Rattle.rules.specs.Expiry.{lowerSectionCode, earlier}
-use Rattle.method_laws.specs.Columns.{Columns, settlementsOf, positionsOf, byKey}
+use Rattle.rules.specs.Expiry.Failing.{noticed}
+use Rattle.rules.specs.Expiry.Passes.{sellersIn}
+use Rattle.method_laws.specs.Columns.{Columns, settlementsOf, positionsOf, byKey, noticeLotsIn}
 use Rattle.method_laws.specs.Giving.{inOrder}
 use Rattle.method_laws.proofs.Shares.{Told}
 
@@ -40,3 +44,25 @@ module _ (ss : List Section) (codes : List ℕ) (positions : List ℤ) (keys : L
   order-by-keys sooner lots =
       ordered-same (earlier sooner (byKey keys) lots) (earlier sooner (lowerSectionCode ss) lots) (length ss)
       (λ i j h k. ap (λ (t : Bool). sooner (entry lots i) (entry lots j) || eqb (entry lots i) (entry lots j) and t) (sym (columns .keys-lower i j h k)))
+
+-- what stands in a column is what its notice has
+module _ (ns : List Notice) where
+  pub seller-at : {sellers : List ℕ} → sellers ≡ sellersIn ns → (k : ℕ) → entry sellers k ≡ noticeOf ns k .section
+  seller-at e k = ap (λ (is : List ℕ). entry is k) e ∙ List·getD-map (λ (n : Notice). n .section) ns k blankNotice
+
+  pub lots-at : {lots : List ℕ} → lots ≡ noticeLotsIn ns → (k : ℕ) → entry lots k ≡ natAbs (noticeOf ns k .lots .0)
+  lots-at e k = ap (λ (xs : List ℕ). entry xs k) e ∙ List·getD-map (λ (n : Notice). natAbs (n .lots .0)) ns k blankNotice
+
+  pub sellers-long : {sellers : List ℕ} → sellers ≡ sellersIn ns → length sellers ≡ length ns
+  sellers-long e = ap length e ∙ length-map ns (λ (n : Notice). n .section)
+
+  -- the lots of a section's notices among the first k, read of the columns
+  pub noticed-read : {sellers lots : List ℕ} → sellers ≡ sellersIn ns → lots ≡ noticeLotsIn ns → (k : ℕ) → k ≤ length ns → (i : ℕ)
+      → total (listed k (λ (j : ℕ). cond (eqb (entry sellers j) i) (entry lots j) 0)) ≡ noticed (take k ns) i
+  unfolding noticed
+  noticed-read e l k h i =
+      let counts : Notice → ℕ = λ (n : Notice). cond (eqb (n .section) i) (natAbs (n .lots .0)) 0 in
+      sum-same _+_ 0 naturals k _ (λ (j : ℕ). counts (noticeOf (take k ns) j))
+      (λ j m. ap₂ (λ (seller own : ℕ). cond (eqb seller i) own 0) (seller-at e j) (lots-at l j) ∙ ap counts (sym (getD-take k ns j blankNotice m)))
+      ∙ ap (λ (n : ℕ). total (listed n (λ (j : ℕ). counts (noticeOf (take k ns) j)))) (sym (length-take-le k ns h))
+      ∙ ap total (listed-read counts (take k ns) blankNotice)

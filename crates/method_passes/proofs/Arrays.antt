@@ -56,21 +56,19 @@ pub one-more-pair : (ps qs : Pairs) (q : Pair) → pairsIn qs ≡ pairsIn ps ++ 
 one-more-pair ps qs q more = sym (pairs-count qs) ∙ ap length more ∙ length-append (pairsIn ps) (q ∷ []) ∙ ap (λ (n : ℕ). n + 1) (pairs-count ps)
 
 -- the pairs with lots left are of the same sections
-pub known-left : (ps : List Pair) (p left sections : ℕ) → Known ps sections → Known (pairLeft ps p left) sections
-known-left ps p left sections known =
-    let buyer : Pair → ℕ = λ (q : Pair). q .buyer in
-    let new = withLots (pairOf ps p) left in
-    record {
-      few = omega (arith, length-set ps p new, known .few);
-      buyer = λ k h.
-          omega (
-            arith,
-            List·getD-map buyer (set ps p new) k noPair,
-            ap (λ (bs : List ℕ). entry bs k) (map-set-same buyer ps p new noPair refl),
-            List·getD-map buyer ps k noPair,
-            known .buyer k (omega (arith, h, length-set ps p new)),
-          );
-    }
+module _ (ps : List Pair) (p left : ℕ) where
+  pub left-buyer : (k : ℕ) → pairOf (pairLeft ps p left) k .buyer ≡ pairOf ps k .buyer
+  left-buyer k =
+      let buyer : Pair → ℕ = λ (q : Pair). q .buyer in
+      let new = withLots (pairOf ps p) left in
+      sym (List·getD-map buyer (set ps p new) k noPair) ∙ ap (λ (bs : List ℕ). entry bs k) (map-set-same buyer ps p new noPair refl) ∙ List·getD-map buyer ps k noPair
+
+  pub left-length : length (pairLeft ps p left) ≡ length ps
+  left-length = length-set ps p (withLots (pairOf ps p) left)
+
+  pub known-left : (sections : ℕ) → Known ps sections → Known (pairLeft ps p left) sections
+  known-left sections known =
+      record { few = omega (arith, left-length, known .few); buyer = λ k h. omega (arith, left-buyer k, known .buyer k (omega (arith, h, left-length))) }
 
 module _ (g : Register) where
   abbrev lineIn : ℕ → Line

@@ -3,4 +3,5 @@ pub mod Offered
 pub mod Arrays
 pub mod Pairing
 pub mod Lining
-pub mod Agreed
+pub mod Stages
+pub mod Passed

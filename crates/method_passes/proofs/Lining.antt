@@ -7,7 +7,7 @@ use Rattle.numbers.proofs.Tests.{or-cases, or-left, or-right}
 use Rattle.rules.specs.Expiry.Passes.{Pair, Line, pairOf, offers, earlierPair, fullestPair, fullestNotice, stageTwo}
 use Rattle.method_passes.specs.declared.{pairs.Pairs.Pairs, register.Register.Register, stage_two.Choice.Choice}
 use Rattle.method_passes.specs.Formed.{pairsIn, pairLeft, linesIn, nextChoice, linesFrom, Known, Sold}
-use Rattle.method_passes.proofs.Arrays.{pairs-count, pair-at, known-left, lines-count}
+use Rattle.method_passes.proofs.Arrays.{pairs-count, pair-at, left-length, known-left, lines-count}
 use Rattle.method_passes.proofs.Offered.{offers-length, offer-within}
 
 -- where there are pairs and notices
@@ -46,15 +46,15 @@ module _ (lower : ℕ → ℕ → Bool) where
 
     -- the turn that the definition takes
     module _ (ps : List Pair) (drawn : List ℕ) where
-      abbrev next : Choice
+      abbrev pub next : Choice
       next = nextChoice lower sellers stands ps drawn
 
-      abbrev andSoOn : Choice → ℕ → List Line
+      abbrev pub andSoOn : Choice → ℕ → List Line
       andSoOn r n =
           record { buyer = pairOf ps (r .pair) .buyer; elevator = pairOf ps (r .pair) .elevator; seller = entry sellers (r .notice); lots = r .lots }
           ∷ stageTwo lower sellers stands n (pairLeft ps (r .pair) (pairOf ps (r .pair) .lots - r .lots)) (set drawn (r .notice) (entry drawn (r .notice) - r .lots))
 
-      one-turn : (n : ℕ) (t : Bool) → eqb (next .lots) 0 ≡ t → stageTwo lower sellers stands (suc n) ps drawn ≡ cond t [] (andSoOn next n)
+      pub one-turn : (n : ℕ) (t : Bool) → eqb (next .lots) 0 ≡ t → stageTwo lower sellers stands (suc n) ps drawn ≡ cond t [] (andSoOn next n)
       unfolding stageTwo
       one-turn n t e = go (eqb (next .lots) 0) ∙ ap (λ (u : Bool). cond u [] (andSoOn next n)) e
         where
@@ -63,16 +63,16 @@ module _ (lower : ℕ → ℕ → Bool) where
           go false = refl
 
       -- with nothing to take there is no line
-      nothing-lined : next .lots ≡ 0 → (n : ℕ) → stageTwo lower sellers stands n ps drawn ≡ []
+      pub nothing-lined : next .lots ≡ 0 → (n : ℕ) → stageTwo lower sellers stands n ps drawn ≡ []
       unfolding stageTwo
       nothing-lined e zero = refl
       nothing-lined e (suc n) = one-turn n true (eq-eqb (next .lots) 0 e)
 
-      no-turn : stageTwo lower sellers stands 0 ps drawn ≡ []
+      pub no-turn : stageTwo lower sellers stands 0 ps drawn ≡ []
       unfolding stageTwo
       no-turn = refl
 
-      no-pair : length ps ≡ 0 → next .lots ≡ 0
+      pub no-pair : length ps ≡ 0 → next .lots ≡ 0
       no-pair e = omega (arith, ap (λ (q : Pair). q .lots) (getD-past ps (next .pair) (record { buyer = 0; elevator = 0; lots = 0 }) (omega (arith, e))))
 
       no-notice : length stands ≡ 0 → next .lots ≡ 0
@@ -192,7 +192,7 @@ module _ (lower : ℕ → ℕ → Bool) where
             lining-next qs h fewer more =
                 record {
                   within = omega (arith, below);
-                  same-count = sym (pairs-count qs) ∙ ap length fewer ∙ length-set (pairsIn ps) (r .pair) _ ∙ pairs-count ps ∙ l .same-count;
+                  same-count = sym (pairs-count qs) ∙ ap length fewer ∙ left-length (pairsIn ps) (r .pair) _ ∙ pairs-count ps ∙ l .same-count;
                   known = rw fewer (known-left (pairsIn ps) (r .pair) (entry (ps .lots) (r .pair) - r .lots) sections (l .known));
                   sold = sold-left sellers stands drawn sections (r .notice) (r .lots) (t .of-notice) (l .sold);
                   whole =

@@ -18,39 +18,39 @@ module _ (lower : ℕ → ℕ → Bool) where
   -- the turn that the definition takes
   module _ (bs es : List ℕ) where
     abbrev most : ℕ
-    most = fullestBuyer lower bs
+    most = fullestElevator es
 
-    abbrev most′ : ℕ
-    most′ = fullestElevator es
+    abbrev pub both : ℕ → ℕ
+    both b = min (entry bs b) (entry es most)
 
-    abbrev both : ℕ
-    both = min (entry bs most) (entry es most′)
+    abbrev pub andSoOn : ℕ → ℕ → List Pair
+    andSoOn b n = record { buyer = b; elevator = most; lots = both b } ∷ stageOne lower n (set bs b (entry bs b - both b)) (set es most (entry es most - both b))
 
-    abbrev andSoOn : ℕ → List Pair
-    andSoOn n = record { buyer = most; elevator = most′; lots = both } ∷ stageOne lower n (set bs most (entry bs most - both)) (set es most′ (entry es most′ - both))
-
-    one-turn : (n : ℕ) (t : Bool) → eqb both 0 ≡ t → stageOne lower (suc n) bs es ≡ cond t [] (andSoOn n)
+    pub one-turn : (n : ℕ) (t : Bool) → eqb (both (fullestBuyer lower bs)) 0 ≡ t → stageOne lower (suc n) bs es ≡ cond t [] (andSoOn (fullestBuyer lower bs) n)
     unfolding stageOne
-    one-turn n t e = go (eqb both 0) ∙ ap (λ (u : Bool). cond u [] (andSoOn n)) e
+    one-turn n t e = go (eqb (both b) 0) ∙ ap (λ (u : Bool). cond u [] (andSoOn b n)) e
       where
-        go : (u : Bool) → elim u [ true ↦ [] | false ↦ andSoOn n ] ≡ cond u [] (andSoOn n)
+        b : ℕ
+        b = fullestBuyer lower bs
+
+        go : (u : Bool) → elim u [ true ↦ [] | false ↦ andSoOn b n ] ≡ cond u [] (andSoOn b n)
         go true = refl
         go false = refl
 
-  no-turn : (bs es : List ℕ) → stageOne lower 0 bs es ≡ []
+  pub no-turn : (bs es : List ℕ) → stageOne lower 0 bs es ≡ []
   unfolding stageOne
   no-turn bs es = refl
 
   module _ {bs es : List ℕ} {b e has stands amount : ℕ} (turn : Turn lower bs es b e has stands amount) where
-    same-amount : amount ≡ both bs es
+    same-amount : amount ≡ both bs es (fullestBuyer lower bs)
     same-amount = rw (turn .smaller, turn .of-buyer, turn .of-elevator, turn .buyer, turn .elevator)
 
     turn-pair : (n : ℕ) → (amount ≡ 0 → ⊥) → stageOne lower (suc n) bs es ≡ record { buyer = b; elevator = e; lots = amount } ∷ stageOne lower n (set bs b (has - amount)) (set es e (stands - amount))
     turn-pair n some =
-        rw (same-amount, turn .of-buyer, turn .of-elevator, turn .buyer, turn .elevator) (one-turn bs es n false (ne-eqb (both bs es) 0 (λ z. some (same-amount ∙ z))))
+        rw (same-amount, turn .of-buyer, turn .of-elevator, turn .buyer, turn .elevator) (one-turn bs es n false (ne-eqb (both bs es (fullestBuyer lower bs)) 0 (λ z. some (same-amount ∙ z))))
 
     turn-none : (n : ℕ) → amount ≡ 0 → stageOne lower (suc n) bs es ≡ []
-    turn-none n none = one-turn bs es n true (eq-eqb (both bs es) 0 (sym same-amount ∙ none))
+    turn-none n none = one-turn bs es n true (eq-eqb (both bs es (fullestBuyer lower bs)) 0 (sym same-amount ∙ none))
 
     -- where something is paired, buyer and elevator have a place
     module _ (some : amount ≡ 0 → ⊥) where

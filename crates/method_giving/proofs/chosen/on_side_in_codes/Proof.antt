@@ -1,6 +1,7 @@
 -- The loop's invariant: the first i entries are those that the columns tell, and the others are as they were.
-use Rattle.numbers.proofs.Words.{needs, ℕ, _-_, _<_, arith, _≡_, ap, ap₂, _∙_, Bool, cond, List, length, ℤ, now, w64, toZ, ofZ, entry, entryℤ}
+use Rattle.numbers.proofs.Words.{needs, ℕ, _-_, _≤_, _<_, arith, _≡_, sym, ap, ap₂, subst, _∙_, Bool, cond, List, length, ℤ, now, w64, toZ, ofZ, entry, entryℤ}
 use Rattle.numbers.proofs.Filled.{Filled, filled-none, filled-next, filled-length, filled-end}
+use Rattle.numbers.proofs.Ranges.{listed-under}
 use Rattle.numbers.proofs.Whole.{read-back}
 use Rattle.rules.specs.declared.book.{Section.Section}
 use Rattle.rules.specs.Book.{positionOf}
@@ -90,14 +91,19 @@ same-length : tie.Need-same-length Inv-loop μ-loop
 same-length c = filled-length (c .before .loop .inv)
 
 returns : tie.Need-returns Inv-loop μ-loop
-returns c = λ ss codes-are positions-are.
+returns c =
     let start = c .before .before .before .before .before in
     let a = start .args in
     let numbers = now (a .numbers) in
     let lots = now (a .lots) in
-    filled-end (c .before .loop .inv) (omega arith) (length lots) (start .pre .0 .2)
-    ∙ chosen-by ss (test (a .same) (now (a .codes)) (now (a .positions)) numbers) (λ (s : Section). onSide (a .same) (positionOf s) (entryℤ numbers (s .settlement))) lots (length lots) (omega (arith, codes-long ss codes-are))
-    (λ i. ap₂ (onSide (a .same)) (position-at ss positions-are i) (ap (entryℤ numbers) (code-at ss codes-are i)))
+    let told = test (a .same) (now (a .codes)) (now (a .positions)) numbers in
+    let all = filled-end (c .before .loop .inv) (omega arith) (length lots) (start .pre .0 .2) in (
+      λ ss codes-are positions-are.
+          all
+          ∙ chosen-by ss told (λ (s : Section). onSide (a .same) (positionOf s) (entryℤ numbers (s .settlement))) lots (length lots) (omega (arith, codes-long ss codes-are))
+          (λ i. ap₂ (onSide (a .same)) (position-at ss positions-are i) (ap (entryℤ numbers) (code-at ss codes-are i))),
+      subst (λ (out : List ℕ). (i : ℕ) → entry out i ≤ entry lots i) (sym all) (listed-under (length lots) told (entry lots)),
+    )
 
 pub on-side-in-codes-spec : {M : Type 1} → statement M
 on-side-in-codes-spec =
