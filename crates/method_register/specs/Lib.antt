@@ -1,1 +1,1 @@
-pub mod Expiring
+pub mod Passes

@@ -1,10 +1,6 @@
 // What a pass takes: its buyers' lots, and what is drawn for it of the notices.
-ghost use Rattle.rules.specs.Words.{ℕ, List, _≡_, _≤_, _<_, _and_, cond, eqb, length, listed, entry, total};
-ghost use Rattle.rules.specs.declared.book.{Section.Section, Notice.Notice};
-ghost use Rattle.rules.specs.Book.{positionOf, sectionOf, noticeOf};
-ghost use Rattle.rules.specs.Expiry;
-ghost use Rattle.rules.specs.Expiry.Passes.{sellersIn};
-ghost use Rattle.method_laws.specs.Columns.{settlementsOf, positionsOf};
+ghost use Rattle.rules.specs.Words.{ℕ, _≡_, _≤_, _<_, cond, length, entry, total};
+ghost use Rattle.method_register.specs.Passes.{buyersInCode, drawnInCode, longBuyers};
 
 // The lots of a section where the test passes, and 0 else.
 fn kept_if(test: bool, own: u64) -> u64
@@ -19,7 +15,7 @@ fn kept_if(test: bool, own: u64) -> u64
 // The inside lots of the long sections of a settlement code; how many there are (01, Expiry, 6.1).
 pub fn buyers_in_code(codes: &[u8], positions: &[i64], near: &[u64], c: u8, out: &mut [u64]) -> u64
     requires { ⌜ (length (now codes) ≡ length (now near)) × (length (now positions) ≡ length (now near)) × (length (now out) ≡ length (now near)) × (length (now near) ≤ 128) × ((i : ℕ) → entry (now near) i ≤ 1_000_000) ⌝ }
-    ensures { λ _. ⌜ ((ss : List Section) → now (codes .entry) ≡ settlementsOf ss → now (positions .entry) ≡ positionsOf ss → now (out .exit) ≡ Expiry.chosen ss (λ (s : Section). Expiry.isLong (positionOf s) and eqb (s .settlement) c) (now (near .entry))) ⌝ }
+    ensures { λ _. ⌜ now (out .exit) ≡ buyersInCode (now (codes .entry)) (now (positions .entry)) (now (near .entry)) c ⌝ }
     ensures { λ r. ⌜ r ≡ total (now (out .exit)) ⌝ }
 {
     let held = near.len();
@@ -40,7 +36,7 @@ pub fn buyers_in_code(codes: &[u8], positions: &[i64], near: &[u64], c: u8, out:
 // What is drawn inside of the notices of a settlement code's sections (01, Expiry, 6.1).
 pub fn drawn_in_code(codes: &[u8], sellers: &[u8], drawn: &[u64], c: u8, out: &mut [u64])
     requires { ⌜ (length (now sellers) ≡ length (now drawn)) × (length (now out) ≡ length (now drawn)) × ((k : ℕ) → k < length (now sellers) → entry (now sellers) k < length (now codes)) ⌝ }
-    ensures { λ _. ⌜ ((ss : List Section) (ns : List Notice) → now (codes .entry) ≡ settlementsOf ss → now (sellers .entry) ≡ sellersIn ns → now (out .exit) ≡ listed (length ns) (λ (k : ℕ). cond (eqb (sectionOf ss (noticeOf ns k .section) .settlement) c) (entry (now (drawn .entry)) k) 0)) ⌝ }
+    ensures { λ _. ⌜ now (out .exit) ≡ drawnInCode (now (codes .entry)) (now (sellers .entry)) (now (drawn .entry)) c ⌝ }
     ensures { λ _. ⌜ ((k : ℕ) → entry (now (out .exit)) k ≤ entry (now (drawn .entry)) k) ⌝ }
 {
     let filed = drawn.len();
@@ -57,7 +53,7 @@ pub fn drawn_in_code(codes: &[u8], sellers: &[u8], drawn: &[u64], c: u8, out: &m
 // The outside lots of the long sections (01, Expiry, 6.1).
 pub fn long_buyers(positions: &[i64], far: &[u64], out: &mut [u64])
     requires { ⌜ (length (now positions) ≡ length (now far)) × (length (now out) ≡ length (now far)) ⌝ }
-    ensures { λ _. ⌜ ((ss : List Section) → now (positions .entry) ≡ positionsOf ss → now (out .exit) ≡ Expiry.chosen ss (λ (s : Section). Expiry.isLong (positionOf s)) (now (far .entry))) ⌝ }
+    ensures { λ _. ⌜ now (out .exit) ≡ longBuyers (now (positions .entry)) (now (far .entry)) ⌝ }
 {
     let held = far.len();
     let mut i = 0;
