@@ -1,8 +1,12 @@
 -- The sections held and the notices filed, as lists that a loop over a book's places goes along.
-use Rattle.numbers.proofs.Words.{ℕ, _≤_, _<_, _≡_, sym, subst, length, length-take-le, arith, natAbs}
-use Rattle.rules.specs.declared.book.{Book.Book}
-use Rattle.numbers.proofs.Lists.{Has, has-take, every-has}
-use Rattle.rules.specs.Book.{heldSections, filedNotices, sectionAt, noticeAt, basisOf, sectionOfNoughts, blankNotice, sectionGood}
+use Rattle.numbers.proofs.Words.{ℕ, _≤_, _<_, le-antisymm, _≡_, sym, ap, subst, _∙_, true≢false, List, [], ⊎-elim, length, length-take-le, arith, natAbs, same}
+use Rattle.rules.specs.declared.book.{Book.Book, Section.Section}
+use Rattle.numbers.proofs.Lists.{Has, has-take, every-at, every-has, apart-at}
+use Rattle.numbers.proofs.Orders.{Ranks}
+use Rattle.numbers.proofs.Bytes.{same-self, before-self, before-trans, before-total}
+use Rattle.numbers.proofs.Tests.{below-or-not}
+use Rattle.rules.specs.Book.{heldSections, filedNotices, sectionAt, sectionOf, noticeAt, basisOf, sectionOfNoughts, blankNotice, sectionGood, sectionCodesAlike}
+use Rattle.rules.specs.Expiry.{lowerSectionCode}
 use Rattle.book_laws.proofs.Good.{Good, SectionGood, section-facts}
 
 module _ (b : Book) (places : length (b .sections) ≡ 128) (most : b .held ≤ 128) where
@@ -37,3 +41,38 @@ held-basis b book i h = omega (arith, held-good b book i h .basis, book .trades)
 -- a section held has a place
 pub held-place : (b : Book) → Good b → (i : ℕ) → i < b .held → i < length (b .sections)
 held-place b book i h = omega (arith, book .held, book .section-places)
+
+-- the same of a section by its number among those held
+module _ (b : Book) (book : Good b) where
+  abbrev ss : List Section
+  ss = heldSections b
+
+  listed-good : (i : ℕ) → i < length ss → SectionGood (b .trades) (sectionOf ss i)
+  listed-good i h = section-facts _ _ (every-at (sectionGood (b .trades)) ss i (sectionOfNoughts []) (book .sections) h)
+
+  pub held-codes : (i : ℕ) → i < length (heldSections b) → sectionOf (heldSections b) i .settlement < 64
+  held-codes i h = omega (arith, listed-good i h .settlement)
+
+  -- a section and a later one have different codes
+  differ : (i j : ℕ) → i < j → j < length ss → sectionOf ss i .code ≡ sectionOf ss j .code → ⊥
+  differ i j h k e =
+      true≢false
+      (sym (same-self (sectionOf ss j .code))
+      ∙ sym (ap (λ (c : List ℕ). same c (sectionOf ss j .code)) e)
+      ∙ apart-at sectionCodesAlike ss (sectionOfNoughts []) i j (book .codes-apart) h k)
+
+  told : (i j : ℕ) → i < length ss → j < length ss → sectionOf ss i .code ≡ sectionOf ss j .code → i ≡ j
+  told i j h k e =
+      ⊎-elim (λ (l : i < j). absurd (differ i j l k e))
+      (λ (l : j ≤ i). ⊎-elim (λ (m : j < i). absurd (differ j i m h (sym e))) (λ (m : i ≤ j). le-antisymm m l) (below-or-not j i))
+      (below-or-not i j)
+
+  -- so section codes tell the sections apart
+  pub held-told : Ranks (length (heldSections b)) (lowerSectionCode (heldSections b))
+  held-told =
+      let code : ℕ → List ℕ = λ (i : ℕ). sectionOf ss i .code in
+      record {
+        self = λ i. before-self (code i);
+        along = λ i j k. before-trans (code i) (code j) (code k);
+        apart = λ i j h k p q. told i j h k (before-total (code i) (code j) (listed-good i h .code-length ∙ sym (listed-good j k .code-length)) p q);
+      }

@@ -1,10 +1,11 @@
 -- What the method's definitions say of a good book: of a section held, of a notice filed, and of sums over them, one after the other.
-use Rattle.numbers.proofs.Words.{ℕ, _+_, _-_, min, max, _≤_, _<_, add-zero, le-of-lt, add-one, arith, _≡_, refl, sym, ap, ap₂, _∙_, Bool, true, false, not, cond, _||_, false≢true, List, [], _∷_, _++_, map, map-append, eqb, leb, ltb, length, take, take-suc, take-take, getD-take, ℤ, pos, negsuc, negℤ, natAbs, _+ℤ_, leZ, ltb-true, leb-true, _and_, counted, listed, entry, gathered, total, totalℤ}
+use Rattle.numbers.proofs.Words.{ℕ, _+_, _-_, min, _≤_, _<_, le-of-lt, add-one, arith, _≡_, refl, sym, ap, ap₂, _∙_, Bool, true, false, not, cond, _||_, false≢true, List, [], _∷_, _++_, eqb, leb, ltb, length, take, take-suc, take-take, getD-take, ℤ, pos, negsuc, negℤ, natAbs, _+ℤ_, leZ, ltb-true, leb-true, _and_, counted, listed, entry, gathered, totalℤ}
 use Rattle.rules.specs.declared.book.{Book.Book, Section.Section, Notice.Notice}
 use Rattle.numbers.proofs.Tests.{both}
 use Rattle.numbers.proofs.Lists.{every-has}
-use Rattle.numbers.proofs.Sums.{naturals, wholes, total-append}
+use Rattle.numbers.proofs.Sums.{naturals, wholes, total-last}
 use Rattle.numbers.proofs.Ranges.{sum-more, listed-length, listed-at}
+use Rattle.numbers.proofs.Under.{under-within}
 use Rattle.numbers.proofs.Whole.{size, negated}
 use Rattle.rules.specs.Book.{heldSections, filedNotices, sectionAt, sectionOf, sectionOfNoughts, positionOf, noticeGood, noticeAt, noticeOf, blankNotice}
 use Rattle.rules.specs.Expiry
@@ -84,12 +85,8 @@ filed-good b book k h = notice-facts _ _ (every-has (noticeGood (b .held)) (has-
 abbrev pub counts : ℕ → Notice → ℕ
 counts i n = cond (eqb (n .section) i) (natAbs (n .lots .0)) 0
 
-at-most : (t : Bool) (n : ℕ) → cond t n 0 ≤ n
-at-most true n = omega arith
-at-most false n = omega arith
-
 pub counts-most : (held i : ℕ) (n : Notice) → Filed held n → counts i n ≤ 1_000_000
-counts-most held i n filed = omega (arith, filed .lots, at-most (eqb (n .section) i) (natAbs (n .lots .0)))
+counts-most held i n filed = omega (arith, filed .lots, under-within (eqb (n .section) i) (natAbs (n .lots .0)))
 
 -- no notice, and one notice more
 pub noticed-none : (i : ℕ) → noticed [] i ≡ 0
@@ -97,11 +94,8 @@ unfolding noticed gathered
 noticed-none i = refl
 
 noticed-more : (ns : List Notice) (n : Notice) (i : ℕ) → noticed (ns ++ (n ∷ [])) i ≡ noticed ns i + counts i n
-unfolding noticed gathered
-noticed-more ns n i =
-    ap total (map-append (counts i) ns (n ∷ []))
-    ∙ total-append _+_ 0 naturals (map (counts i) ns) (counts i n ∷ [])
-    ∙ ap (λ (x : ℕ). total (map (counts i) ns) + x) (add-zero (counts i n))
+unfolding noticed
+noticed-more ns n i = total-last _+_ 0 naturals (counts i) ns n
 
 pub noticed-next : (ns : List Notice) (i k : ℕ) → k < length ns → noticed (take (k + 1) ns) i ≡ noticed (take k ns) i + counts i (noticeOf ns k)
 noticed-next ns i k h = rw add-one (ap (λ (l : List Notice). noticed l i) (take-suc ns k blankNotice h) ∙ noticed-more (take k ns) (noticeOf ns k) i)
@@ -110,22 +104,20 @@ noticed-next ns i k h = rw add-one (ap (λ (l : List Notice). noticed l i) (take
 filed-at : (b : Book) (k : ℕ) → k < b .filed → noticeOf (filedNotices b) k ≡ noticeAt b k
 filed-at b k h = getD-take (b .filed) (b .notices) k blankNotice h
 
--- what is drawn of a notice: of which section it is, and which notices came earlier
-abbrev pub piece : List ℕ → List ℕ → Section → List Notice → Notice → ℕ
-piece from upto s earlier n =
-    cond (isShort (positionOf s)) (min (noticed earlier (n .section) + natAbs (n .lots .0)) (entry upto (n .section)) - max (noticed earlier (n .section)) (entry from (n .section))) 0
+-- what is drawn of a notice: of which section it is, and which notices were filed before it
+abbrev pub piece : List ℕ → Section → List Notice → Notice → ℕ
+piece first s before n = cond (isShort (positionOf s)) (min (natAbs (n .lots .0)) (entry first (n .section) - noticed before (n .section))) 0
 
-module _ (b : Book) (book : Good b) (from upto : List ℕ) where
-  pub drawn-length : length (drawn (heldSections b) (filedNotices b) from upto) ≡ b .filed
+module _ (b : Book) (book : Good b) (first : List ℕ) where
+  pub drawn-length : length (drawn (heldSections b) (filedNotices b) first) ≡ b .filed
   unfolding drawn
   drawn-length = listed-length (length (filedNotices b)) _ ∙ filed-length b (book .notice-places) (book .filed)
 
-  pub drawn-at : (k : ℕ) → k < b .filed
-      → entry (drawn (heldSections b) (filedNotices b) from upto) k ≡ piece from upto (sectionAt b (noticeAt b k .section)) (take k (b .notices)) (noticeAt b k)
+  pub drawn-at : (k : ℕ) → k < b .filed → entry (drawn (heldSections b) (filedNotices b) first) k ≡ piece first (sectionAt b (noticeAt b k .section)) (take k (b .notices)) (noticeAt b k)
   unfolding drawn
   drawn-at k h =
       listed-at (length (filedNotices b)) _ k 0 (omega (arith, h, filed-length b (book .notice-places) (book .filed)))
-      ∙ ap (λ (n : Notice). piece from upto (sectionOf (heldSections b) (n .section)) (take k (filedNotices b)) n) (filed-at b k h)
-      ∙ ap₂ (λ (s : Section) (earlier : List Notice). piece from upto s earlier (noticeAt b k))
+      ∙ ap (λ (n : Notice). piece first (sectionOf (heldSections b) (n .section)) (take k (filedNotices b)) n) (filed-at b k h)
+      ∙ ap₂ (λ (s : Section) (before : List Notice). piece first s before (noticeAt b k))
       (held-at b (noticeAt b k .section) (filed-good b book k h .section))
       (take-take k (b .filed) (b .notices) (le-of-lt h))

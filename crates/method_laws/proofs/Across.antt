@@ -1,12 +1,14 @@
 -- Step 3 closes exactly what is open, and leaves as many long lots as short ones.
-use Rattle.numbers.proofs.Words.{ℕ, _+_, _-_, _≤_, _<_, min, arith, _≡_, refl, sym, ap, _∙_, Bool, true, false, cond, _&&_, List, ⊎-elim, eqb, ltb, length, ℤ, natAbs, listed, entry, less, total}
+use Rattle.numbers.proofs.Words.{ℕ, _+_, _-_, _≤_, _<_, min, arith, _≡_, refl, sym, ap, subst, _∙_, Bool, true, false, cond, _&&_, List, ⊎-elim, eqb, ltb, length, ℤ, natAbs, listed, entry, less, total}
 use Rattle.rules.specs.declared.book.{Section.Section}
 use Rattle.numbers.proofs.Sums.{naturals}
 use Rattle.numbers.proofs.Under.{under-same, under-none, under-two}
 use Rattle.numbers.proofs.Ranges.{listed-at, total-long, sum-same, sum-both, sum-classes, sum-within, sum-nothing}
 use Rattle.rules.specs.Book.{positionOf, sectionOf}
 use Rattle.rules.specs.Expiry.{opposed, chosen}
-use Rattle.rules.specs.Expiry.Across.{codeCaps, givenAcross}
+use Rattle.rules.specs.Expiry.Across.{codeCap, givenAcross}
+use Rattle.method_laws.specs.Giving.{codeCaps}
+use Rattle.method_laws.proofs.Shares.{Told, taken-across}
 use Rattle.method_laws.proofs.Greedy.{ofCode, Given, given}
 use Rattle.method_laws.proofs.Sides.{lotsOf, sideOf, allOf, chosen-within, lots-less, side-classes}
 
@@ -38,14 +40,19 @@ module _ (ss : List Section) (test : Section → Bool) (xs ys : List ℕ) (long 
   pub lots-none : (pick : Section → Bool) → ((i : ℕ) → i < length ss → pick (sectionOf ss i) ≡ true → test (sectionOf ss i) ≡ false) → lotsOf ss pick ys ≡ 0
   lots-none pick apart = sum-nothing _+_ 0 naturals (length ss) _ (λ i h. under-none (pick (sectionOf ss i)) (entry ys i) (λ e. left-out i h (apart i h e)))
 
+-- what giving over all codes comes to
+pub across-given : (ss : List Section) → ((i : ℕ) → i < length ss → sectionOf ss i .settlement < 64) → Told ss → (d : ℤ) (left : List ℕ) → Given ss (chosen ss (λ (s : Section). opposed (positionOf s) d) left) (codeCaps ss d left) (natAbs d) (givenAcross ss d left)
+across-given ss codes told d left =
+    let lots = chosen ss (λ (s : Section). opposed (positionOf s) d) left in
+    subst (Given ss lots (codeCaps ss d left) (natAbs d)) (taken-across ss told codes d left) (given ss lots ltb (codeCaps ss d left) (natAbs d))
+
 -- `mine` is the side that gives, `other` the side of what is open
-module _ (ss : List Section) (codes : (i : ℕ) → i < length ss → sectionOf ss i .settlement < 64) (left : List ℕ) (d : ℤ) (mine other : ℤ → Bool) (faced : (p : ℤ) → opposed p d ≡ mine p) (apart : (p : ℤ) → other p ≡ true → mine p ≡ false) (net-cap : (c : ℕ) → c < 64 → entry (codeCaps ss d left) c ≡ sideOf ss mine c left - sideOf ss other c left) (more : natAbs d + allOf ss other left ≡ allOf ss mine left) where
+module _ (ss : List Section) (codes : (i : ℕ) → i < length ss → sectionOf ss i .settlement < 64) (told : Told ss) (left : List ℕ) (d : ℤ) (mine other : ℤ → Bool) (faced : (p : ℤ) → opposed p d ≡ mine p) (apart : (p : ℤ) → other p ≡ true → mine p ≡ false) (net-cap : (c : ℕ) → c < 64 → codeCap ss d left c ≡ sideOf ss mine c left - sideOf ss other c left) (more : natAbs d + allOf ss other left ≡ allOf ss mine left) where
   abbrev facing : Section → Bool
   facing s = opposed (positionOf s) d
 
   giving : Given ss (chosen ss facing left) (codeCaps ss d left) (natAbs d) (givenAcross ss d left)
-  unfolding givenAcross
-  giving = given ss (chosen ss facing left) ltb (codeCaps ss d left) (natAbs d)
+  giving = across-given ss codes told d left
 
   -- code by code, all that a code has over what it has on the other side
   at-least : ((c : ℕ) → ofCode ss c (givenAcross ss d left) ≡ min (entry (codeCaps ss d left) c) (ofCode ss c (chosen ss facing left))) → allOf ss mine left ≤ total (givenAcross ss d left) + allOf ss other left
@@ -53,7 +60,7 @@ module _ (ss : List Section) (codes : (i : ℕ) → i < length ss → sectionOf 
       let a = givenAcross ss d left in
       let by-code : total (listed 64 (λ (c : ℕ). ofCode ss c a)) ≡ total a =
       sum-classes _+_ 0 naturals (length ss) 64 (λ (i : ℕ). sectionOf ss i .settlement) (entry a) codes ∙ total-long a (length ss) (giving .long) in
-      omega (arith, sum-within 64 (λ (c : ℕ). sideOf ss mine c left) (λ (c : ℕ). ofCode ss c a + sideOf ss other c left) (λ c h. omega (arith, each c, net-cap c h, chosen-of-code ss facing mine left c (λ i k e. faced (positionOf (sectionOf ss i))))), sum-both _+_ 0 naturals 64 (λ (c : ℕ). ofCode ss c a) (λ (c : ℕ). sideOf ss other c left), by-code, side-classes ss mine left codes, side-classes ss other left codes)
+      omega (arith, sum-within 64 (λ (c : ℕ). sideOf ss mine c left) (λ (c : ℕ). ofCode ss c a + sideOf ss other c left) (λ c h. omega (arith, each c, listed-at 64 (codeCap ss d left) c 0 h, net-cap c h, chosen-of-code ss facing mine left c (λ i k e. faced (positionOf (sectionOf ss i))))), sum-both _+_ 0 naturals 64 (λ (c : ℕ). ofCode ss c a) (λ (c : ℕ). sideOf ss other c left), by-code, side-classes ss mine left codes, side-classes ss other left codes)
 
   pub closed : total (givenAcross ss d left) ≡ natAbs d
   closed = ⊎-elim (λ e. e) (λ each. omega (arith, at-least each, more, giving .needed)) (giving .filled)

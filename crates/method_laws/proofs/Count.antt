@@ -7,7 +7,7 @@ use Rattle.numbers.proofs.Lists.{empty}
 use Rattle.numbers.proofs.Tests.{both, together, below-or-not}
 use Rattle.numbers.proofs.Under.{under-sum, under-two, above-under, above-read}
 use Rattle.numbers.proofs.Counts.{one, one-above, many-same, many-within, many-nowhere, many-classes, live, live-some, firstIn, bothIn, in-classes, both-parts, both-within, both-nowhere}
-use Rattle.rules.specs.Book.{positionOf, sectionOf, noticeOf}
+use Rattle.rules.specs.Book.{settlementCodes, positionOf, sectionOf, noticeOf}
 use Rattle.rules.specs.Expiry.{isLong, isShort}
 use Rattle.rules.specs.Expiry.Passes.{Line, Pass, linesOf, insidePass, outsidePass}
 use Rattle.method_laws.proofs.StageTwo.{lineLots}
@@ -43,8 +43,8 @@ module _ (ss : List Section) (ns : List Notice) (pass : Pass) (formed : Formed s
     no-drawn = sum-empty (length ns) (entry (pass .drawn)) (sym (formed .by-notice (λ (seller elevator : ℕ). true)) ∙ ap (lineLots (λ (l : Line). true)) (empty (linesOf ss ns pass) none))
 
 module _ (ss : List Section) (ns : List Notice) (near far inside outside : List ℕ)
-    (codes : (i : ℕ) → i < length ss → sectionOf ss i .settlement < 64) (sections : (k : ℕ) → k < length ns → noticeOf ns k .section < length ss)
-    (formed-inside : (c : ℕ) → c < 64 → Formed ss ns (insideAt ss ns near far inside outside c)) (formed-outside : Formed ss ns (outsideAll ss ns near far inside outside))
+    (codes : (i : ℕ) → i < length ss → sectionOf ss i .settlement < settlementCodes) (sections : (k : ℕ) → k < length ns → noticeOf ns k .section < length ss)
+    (formed-inside : (c : ℕ) → c < settlementCodes → Formed ss ns (insideAt ss ns near far inside outside c)) (formed-outside : Formed ss ns (outsideAll ss ns near far inside outside))
     (split : Split ss ns near far inside outside) where
   -- by section: its code, and what it buys inside and outside; by notice: its section's code
   abbrev long : ℕ → Bool
@@ -162,7 +162,7 @@ module _ (ss : List Section) (ns : List Notice) (near far inside outside : List 
       (split .one-side c)
 
   -- a pass with no line splits none
-  none-inside : (c : ℕ) → c < 64 → insideLines c ≡ 0 → sectionsSplit c + noticesSplit c ≡ 0
+  none-inside : (c : ℕ) → c < settlementCodes → insideLines c ≡ 0 → sectionsSplit c + noticesSplit c ≡ 0
   none-inside c h none =
       let pass = insideAt ss ns near far inside outside c in
       omega (
@@ -183,10 +183,10 @@ module _ (ss : List Section) (ns : List Notice) (near far inside outside : List 
       )
 
   -- so over all codes at most as many are split as have lines
-  splits-few : total (listed 64 (λ (c : ℕ). sectionsSplit c + noticesSplit c)) ≤ live 64 insideLines
+  splits-few : total (listed settlementCodes (λ (c : ℕ). sectionsSplit c + noticesSplit c)) ≤ live settlementCodes insideLines
   unfolding many
   splits-few =
-      sum-within 64 _ _
+      sum-within settlementCodes _ _
       (λ c h.
       ⊎-elim (λ (some : 0 < insideLines c). omega (arith, some, one-above (insideLines c), one-split c))
       (λ (none : insideLines c ≤ 0). omega (arith, none-inside c h (omega (arith, none))))
@@ -199,7 +199,7 @@ module _ (ss : List Section) (ns : List Notice) (near far inside outside : List 
   abbrev noticesInside : ℕ → ℕ
   noticesInside = firstIn (length ns) codeOfNotice (entry inside) (entry outside)
 
-  inside-few : (c : ℕ) → c < 64 → insideLines c + one (ltb 0 (insideLines c)) ≤ buyersInside c + noticesInside c
+  inside-few : (c : ℕ) → c < settlementCodes → insideLines c + one (ltb 0 (insideLines c)) ≤ buyersInside c + noticesInside c
   inside-few c h =
       let pass = insideAt ss ns near far inside outside c in
       omega (
@@ -219,21 +219,21 @@ module _ (ss : List Section) (ns : List Notice) (near far inside outside : List 
       )
 
   -- over all passes
-  all-few : length (allLines ss ns near far inside outside) + live 64 insideLines + one (ltb 0 outsideLines)
+  all-few : length (allLines ss ns near far inside outside) + live settlementCodes insideLines + one (ltb 0 outsideLines)
       ≤ (many (length ss) (λ (i : ℕ). long i and ltb 0 (entry near i + entry far i)) + many (length ns) (λ (k : ℕ). ltb 0 (entry inside k + entry outside k)))
-      + total (listed 64 (λ (c : ℕ). sectionsSplit c + noticesSplit c))
+      + total (listed settlementCodes (λ (c : ℕ). sectionsSplit c + noticesSplit c))
   unfolding many
   all-few =
       omega (
         arith,
         all-length ss ns near far inside outside,
-        sum-within 64 _ _ inside-few,
-        sum-both _+_ 0 naturals 64 insideLines (λ (c : ℕ). one (ltb 0 (insideLines c))),
-        sum-both _+_ 0 naturals 64 buyersInside noticesInside,
-        sum-both _+_ 0 naturals 64 sectionsSplit noticesSplit,
+        sum-within settlementCodes _ _ inside-few,
+        sum-both _+_ 0 naturals settlementCodes insideLines (λ (c : ℕ). one (ltb 0 (insideLines c))),
+        sum-both _+_ 0 naturals settlementCodes buyersInside noticesInside,
+        sum-both _+_ 0 naturals settlementCodes sectionsSplit noticesSplit,
         outside-few,
-        in-classes (length ss) code (bought near) (bought far) 64 codes,
-        in-classes (length ns) codeOfNotice (entry inside) (entry outside) 64 (λ k h. codes (noticeOf ns k .section) (sections k h)),
+        in-classes (length ss) code (bought near) (bought far) settlementCodes codes,
+        in-classes (length ns) codeOfNotice (entry inside) (entry outside) settlementCodes (λ k h. codes (noticeOf ns k .section) (sections k h)),
         many-same (length ss) (λ (i : ℕ). ltb 0 (bought near i + bought far i)) _ (λ i h. ap (ltb 0) (under-sum (long i) (entry near i) (entry far i) _ refl) ∙ above-under (long i) (entry near i + entry far i)),
       )
 
@@ -248,7 +248,7 @@ module _ (ss : List Section) (ns : List Notice) (near far inside outside : List 
       omega (
         arith,
         all-few,
-        sum-nothing _+_ 0 naturals 64 _ (λ c l. none-outside none c),
-        live-some 64 insideLines (omega (arith, some, none, all-length ss ns near far inside outside)),
+        sum-nothing _+_ 0 naturals settlementCodes _ (λ c l. none-outside none c),
+        live-some settlementCodes insideLines (omega (arith, some, none, all-length ss ns near far inside outside)),
       ))
       (below-or-not 0 outsideLines)

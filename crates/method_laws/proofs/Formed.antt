@@ -2,7 +2,7 @@
 use Rattle.numbers.proofs.Words.{ℕ, zero, suc, _+_, _≤_, _<_, zero-min, arith, _≡_, refl, sym, ap, _∙_, Bool, cond, List, [], _⊎_, inl, inr, ⊎-elim, eqb, ltb, length, listed, entry, total}
 use Rattle.rules.specs.declared.book.{Section.Section, Notice.Notice}
 use Rattle.numbers.proofs.Counts.{live, many-most, many-same}
-use Rattle.rules.specs.Book.{noticeOf}
+use Rattle.rules.specs.Book.{elevators, noticeOf}
 use Rattle.rules.specs.Expiry.Passes.{Pair, Line, Pass, elevatorLots, pairsOf, linesOf, stageTwo}
 use Rattle.method_laws.proofs.Elevators.{elevators-length, elevators-total, elevators-at}
 use Rattle.method_laws.proofs.StageOne.{Paired, paired}
@@ -21,7 +21,7 @@ unfolding stageTwo
 no-pair ss ns zero drawn = refl
 no-pair ss ns (suc turns) drawn = rw (zero-min, stageTwo) refl
 
-module _ (ss : List Section) (ns : List Notice) (elevators : (k : ℕ) → k < length ns → noticeOf ns k .elevator < 32) (pass : Pass)
+module _ (ss : List Section) (ns : List Notice) (standing : (k : ℕ) → k < length ns → noticeOf ns k .elevator < elevators) (pass : Pass)
     (long-buyers : length (pass .buyers) ≡ length ss) (long-drawn : length (pass .drawn) ≡ length ns) (even : total (pass .buyers) ≡ total (pass .drawn)) where
   abbrev atElevators : List ℕ
   atElevators = elevatorLots ns (pass .drawn)
@@ -33,8 +33,8 @@ module _ (ss : List Section) (ns : List Notice) (elevators : (k : ℕ) → k < l
   all-paired : Paired (pass .buyers) atElevators ps
   unfolding pairsOf
   all-paired =
-      paired ss (length ss + 32) (pass .buyers) atElevators
-      (even ∙ sym (elevators-total ns (pass .drawn) elevators long-drawn))
+      paired ss (length ss + elevators) (pass .buyers) atElevators
+      (even ∙ sym (elevators-total ns (pass .drawn) standing long-drawn))
       (omega (
         arith,
         many-most (length (pass .buyers)) (λ (b : ℕ). ltb 0 (entry (pass .buyers) b)),
@@ -50,14 +50,14 @@ module _ (ss : List Section) (ns : List Notice) (elevators : (k : ℕ) → k < l
   all-lined : Lined ns ps (pass .drawn) (linesOf ss ns pass)
   unfolding linesOf
   all-lined =
-      lined ss ns (length ps + length ns) ps (pass .drawn) long-drawn elevators
-      (λ e. all-paired .by-elevator e ∙ elevators-at ns (pass .drawn) e elevators)
+      lined ss ns (length ps + length ns) ps (pass .drawn) long-drawn standing
+      (λ e. all-paired .by-elevator e ∙ elevators-at ns (pass .drawn) e standing)
       (omega (arith, few-pairs, many-most (length ns) (λ (k : ℕ). ltb 0 (entry (pass .drawn) k))))
 
   same-live : live (length atElevators) (entry atElevators) ≡ liveElevators ns (pass .drawn)
   same-live =
       ap (λ (n : ℕ). live n (entry atElevators)) (elevators-length ns (pass .drawn))
-      ∙ many-same 32 _ _ (λ e h. ap (ltb 0) (elevators-at ns (pass .drawn) e elevators))
+      ∙ many-same elevators _ _ (λ e h. ap (ltb 0) (elevators-at ns (pass .drawn) e standing))
 
   -- every line but the last of a pass ends a buyer or a notice
   few-lines : (linesOf ss ns pass ≡ []) ⊎ (length (linesOf ss ns pass) + 1 ≤ live (length ss) (entry (pass .buyers)) + live (length ns) (entry (pass .drawn)))

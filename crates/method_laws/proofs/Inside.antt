@@ -1,5 +1,5 @@
 -- Step 4: what goes outside of a code is what one side has over the other, and what stays inside is even.
-use Rattle.numbers.proofs.Words.{ℕ, _+_, _-_, _≤_, _<_, min, le-trans, arith, _≡_, sym, ap, _∙_, Bool, true, false, cond, _&&_, and-true, and-false, or-false, List, map, _⊎_, inl, inr, ⊎-elim, eqb, ltb, length, ℤ, pos, natAbs, _-ℤ_, eqb-true, eq-eqb, lt-ltb, ltb-true, _and_, listed, entry, entryℤ, less, total, many}
+use Rattle.numbers.proofs.Words.{ℕ, _+_, _-_, _≤_, _<_, min, le-trans, arith, _≡_, sym, ap, subst, _∙_, Bool, true, false, cond, _&&_, and-true, and-false, or-false, List, map, _⊎_, inl, inr, ⊎-elim, eqb, ltb, length, ℤ, pos, natAbs, _-ℤ_, eqb-true, eq-eqb, lt-ltb, ltb-true, _and_, listed, entry, entryℤ, less, total, many}
 use Rattle.rules.specs.declared.book.{Section.Section}
 use Rattle.numbers.proofs.Sums.{naturals}
 use Rattle.numbers.proofs.Whole.{difference-size, difference-above, difference-below}
@@ -10,6 +10,8 @@ use Rattle.numbers.proofs.Tests.{and-left, and-right, together, below-or-not}
 use Rattle.rules.specs.Book.{positionOf, sectionOf}
 use Rattle.rules.specs.Expiry.{size, isLong, isShort, agreed, netOfCode, chosen}
 use Rattle.rules.specs.Expiry.Outside.{outside}
+use Rattle.method_laws.specs.Giving.{sooner, inOrder, taken}
+use Rattle.method_laws.proofs.Shares.{Told, taken-sizes}
 use Rattle.method_laws.proofs.Greedy.{ofCode, Given, given, given-by-code, one-part}
 use Rattle.method_laws.proofs.Sides.{sideOf, allOf, chosen-within, lots-less, side-classes, net-sides, code-sides}
 use Rattle.method_laws.proofs.Across.{chosen-of-code, lots-none}
@@ -22,7 +24,7 @@ agrees-long p d e = simp (e, long-not-short d e, and-true, and-false, or-false)
 agrees-short : (p d : ℤ) → isShort d ≡ true → agreed p d ≡ isShort p
 agrees-short p d e = simp (e, short-not-long d e, and-true, and-false)
 
-module _ (ss : List Section) (codes : (i : ℕ) → i < length ss → sectionOf ss i .settlement < 64) (kept : List ℕ) (within : (i : ℕ) → entry kept i ≤ size (sectionOf ss i)) where
+module _ (ss : List Section) (codes : (i : ℕ) → i < length ss → sectionOf ss i .settlement < 64) (told : Told ss) (kept : List ℕ) (within : (i : ℕ) → entry kept i ≤ size (sectionOf ss i)) where
   abbrev nets : List ℤ
   nets = listed 64 (netOfCode ss kept)
 
@@ -41,9 +43,12 @@ module _ (ss : List Section) (codes : (i : ℕ) → i < length ss → sectionOf 
   abbrev pub near : List ℕ
   near = less kept far
 
-  leaving : Given ss leading caps (total caps) far
+  taken-far : taken ss (inOrder (sooner true) ss leading) leading caps (total caps) ≡ far
   unfolding outside
-  leaving = given ss leading (λ (x y : ℕ). ltb y x) caps (total caps)
+  taken-far = taken-sizes ss told true leading nets (listed-length (length ss) _)
+
+  leaving : Given ss leading caps (total caps) far
+  leaving = subst (Given ss leading caps (total caps)) taken-far (given ss leading (sooner true) caps (total caps))
 
   pub far-within : (i : ℕ) → entry far i ≤ entry kept i
   far-within i = omega (arith, leaving .each i, chosen-within ss agreeing kept i)
@@ -59,8 +64,8 @@ module _ (ss : List Section) (codes : (i : ℕ) → i < length ss → sectionOf 
       ∙ difference-size (sideOf ss isLong c kept) (sideOf ss isShort c kept)
 
   of-code : (c : ℕ) → ofCode ss c far ≡ min (entry caps c) (ofCode ss c leading)
-  unfolding outside
-  of-code c = given-by-code ss leading (λ (x y : ℕ). ltb y x) caps (total caps) c (omega arith)
+  of-code c =
+      subst (λ (xs : List ℕ). ofCode ss c xs ≡ min (entry caps c) (ofCode ss c leading)) taken-far (given-by-code ss leading (sooner true) caps (total caps) c (omega arith))
 
   -- the side that a code has more of goes outside, by what it has more
   far-from : (c : ℕ) (mine other : ℤ → Bool) → ((i : ℕ) → i < length ss → eqb (sectionOf ss i .settlement) c ≡ true → agreeing (sectionOf ss i) ≡ mine (positionOf (sectionOf ss i))) → ((p : ℤ) → other p ≡ true → mine p ≡ false) → ofCode ss c far ≡ sideOf ss mine c far + sideOf ss other c far → entry caps c + sideOf ss other c kept ≡ sideOf ss mine c kept → (sideOf ss mine c far ≡ entry caps c) × (sideOf ss other c far ≡ 0)
@@ -113,9 +118,9 @@ module _ (ss : List Section) (codes : (i : ℕ) → i < length ss → sectionOf 
 
   -- and at most one of its sections is split
   pub one-split-section : (c : ℕ) → many (length ss) (λ (i : ℕ). eqb (sectionOf ss i .settlement) c and ltb 0 (entry near i) and ltb 0 (entry far i)) ≤ 1
-  unfolding outside
   one-split-section c =
-      le-trans (many-within (length ss) _ _ (λ i h. split-part i h (eqb (sectionOf ss i .settlement) c))) (one-part ss leading (λ (x y : ℕ). ltb y x) caps (total caps) c (omega arith))
+      le-trans (many-within (length ss) _ _ (λ i h. split-part i h (eqb (sectionOf ss i .settlement) c)))
+      (subst (λ (xs : List ℕ). many (length ss) (λ (i : ℕ). eqb (sectionOf ss i .settlement) c and ltb 0 (entry xs i) and ltb (entry xs i) (entry leading i)) ≤ 1) taken-far (one-part ss leading (sooner true) caps (total caps) c (omega arith)))
     where
       -- a section that the step takes has all its lots
       all-or-none : (i : ℕ) → i < length ss → (entry leading i ≡ entry kept i) ⊎ (entry leading i ≡ 0)

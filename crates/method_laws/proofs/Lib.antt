@@ -1,3 +1,4 @@
+pub mod Shares
 pub mod Greedy
 pub mod StageOne
 pub mod StageTwo

@@ -4,7 +4,7 @@ use Rattle.rules.specs.declared.book.{Section.Section, Notice.Notice}
 use Rattle.numbers.proofs.Sums.{naturals, total-joined, total-map, total-within}
 use Rattle.numbers.proofs.Ranges.{listed-at, sum-same, sum-both, sum-one, sum-classes, measured-last}
 use Rattle.numbers.proofs.Under.{under-follows, under-sum, under-two, under-swapped, under-either}
-use Rattle.rules.specs.Book.{positionOf, sectionOf, noticeOf}
+use Rattle.rules.specs.Book.{settlementCodes, positionOf, sectionOf, noticeOf}
 use Rattle.rules.specs.Expiry.{isLong, isShort}
 use Rattle.rules.specs.Expiry.Passes.{Line, Pass, linesOf, insidePass, outsidePass}
 use Rattle.method_laws.proofs.StageTwo.{lineLots}
@@ -42,22 +42,22 @@ module _ (ss : List Section) (ns : List Notice) (near far inside outside : List 
   outsideAll = outsidePass ss far outside
 
   abbrev pub allLines : List Line
-  allLines = flatMap (linesOf ss ns) (listed 64 insideAt ++ (outsideAll ∷ []))
+  allLines = flatMap (linesOf ss ns) (listed settlementCodes insideAt ++ (outsideAll ∷ []))
 
   -- what is drawn of a section's notices, inside and outside
   abbrev pub drawnFor : ℕ → ℕ
   drawnFor i = total (listed (length ns) (λ (k : ℕ). cond (eqb (noticeOf ns k .section) i) (entry inside k + entry outside k) 0))
 
   -- their lots and their number, pass by pass
-  pub all-lots : (test : Line → Bool) → lineLots test allLines ≡ total (listed 64 (λ (c : ℕ). lineLots test (linesOf ss ns (insideAt c)))) + lineLots test (linesOf ss ns outsideAll)
+  pub all-lots : (test : Line → Bool) → lineLots test allLines ≡ total (listed settlementCodes (λ (c : ℕ). lineLots test (linesOf ss ns (insideAt c)))) + lineLots test (linesOf ss ns outsideAll)
   unfolding gathered
-  all-lots test = measured-last (lineLots test) refl (lots-append test) (linesOf ss ns) 64 insideAt outsideAll
+  all-lots test = measured-last (lineLots test) refl (lots-append test) (linesOf ss ns) settlementCodes insideAt outsideAll
 
-  pub all-length : length allLines ≡ total (listed 64 (λ (c : ℕ). length (linesOf ss ns (insideAt c)))) + length (linesOf ss ns outsideAll)
-  all-length = measured-last length refl length-append (linesOf ss ns) 64 insideAt outsideAll
+  pub all-length : length allLines ≡ total (listed settlementCodes (λ (c : ℕ). length (linesOf ss ns (insideAt c)))) + length (linesOf ss ns outsideAll)
+  all-length = measured-last length refl length-append (linesOf ss ns) settlementCodes insideAt outsideAll
 
-  module _ (codes : (i : ℕ) → i < length ss → sectionOf ss i .settlement < 64) (sections : (k : ℕ) → k < length ns → noticeOf ns k .section < length ss)
-      (formed-inside : (c : ℕ) → c < 64 → Formed ss ns (insideAt c)) (formed-outside : Formed ss ns outsideAll) where
+  module _ (codes : (i : ℕ) → i < length ss → sectionOf ss i .settlement < settlementCodes) (sections : (k : ℕ) → k < length ns → noticeOf ns k .section < length ss)
+      (formed-inside : (c : ℕ) → c < settlementCodes → Formed ss ns (insideAt c)) (formed-outside : Formed ss ns outsideAll) where
     -- a long section buys its inside and outside lots
     pub buyer-lots : (b : ℕ) → b < length ss → lineLots (λ (l : Line). eqb (l .buyer) b) allLines ≡ cond (isLong (positionOf (sectionOf ss b))) (entry near b + entry far b) 0
     unfolding insidePass outsidePass
@@ -66,8 +66,8 @@ module _ (ss : List Section) (ns : List Notice) (near far inside outside : List 
         let code = sectionOf ss b .settlement in
         all-lots (λ (l : Line). eqb (l .buyer) b)
         ∙ ap₂ _+_
-        (sum-same _+_ 0 naturals 64 _ _ (λ c l. formed-inside c l .by-buyer b ∙ listed-at (length ss) _ b 0 h ∙ under-two long (eqb code c) (entry near b))
-        ∙ sum-one _+_ 0 naturals 64 code (cond long (entry near b) 0) (codes b h))
+        (sum-same _+_ 0 naturals settlementCodes _ _ (λ c l. formed-inside c l .by-buyer b ∙ listed-at (length ss) _ b 0 h ∙ under-two long (eqb code c) (entry near b))
+        ∙ sum-one _+_ 0 naturals settlementCodes code (cond long (entry near b) 0) (codes b h))
         (formed-outside .by-buyer b ∙ listed-at (length ss) _ b 0 h)
         ∙ under-sum long (entry near b) (entry far b) _ refl
 
@@ -82,12 +82,12 @@ module _ (ss : List Section) (ns : List Notice) (near far inside outside : List 
         let of-outside : ℕ → ℕ = λ (k : ℕ). cond (passes k) (entry outside k) 0 in
         all-lots (λ (l : Line). test (l .seller) (l .elevator))
         ∙ ap₂ _+_
-        (sum-same _+_ 0 naturals 64 _ _
+        (sum-same _+_ 0 naturals settlementCodes _ _
         (λ c l.
         formed-inside c l .by-notice test
         ∙ sum-same _+_ 0 naturals (length ns) _ _
         (λ k h. ap (λ (n : ℕ). cond (passes k) n 0) (listed-at (length ns) _ k 0 h) ∙ under-swapped (passes k) (eqb (code k) c) (entry inside k)))
-        ∙ sum-classes _+_ 0 naturals (length ns) 64 code of-inside (λ k h. codes (noticeOf ns k .section) (sections k h)))
+        ∙ sum-classes _+_ 0 naturals (length ns) settlementCodes code of-inside (λ k h. codes (noticeOf ns k .section) (sections k h)))
         (formed-outside .by-notice test)
         ∙ sym (sum-both _+_ 0 naturals (length ns) of-inside of-outside)
         ∙ sum-same _+_ 0 naturals (length ns) _ _ (λ k h. under-sum (passes k) (entry inside k) (entry outside k) _ refl)

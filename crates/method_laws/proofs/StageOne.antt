@@ -1,5 +1,5 @@
 -- Stage one: the pairs that a pass forms.
-use Rattle.numbers.proofs.Words.{ℕ, zero, suc, _+_, _-_, _≤_, _<_, min, min-le-left, min-le-right, arith, _≡_, refl, sym, ap, _∙_, Bool, true, false, cond, List, [], _∷_, map, _⊎_, inl, inr, ⊎-elim, eqb, ltb, length, set, lt-ltb, eqb-true, eqb-false, every, entry, largest, gathered, total}
+use Rattle.numbers.proofs.Words.{ℕ, zero, suc, _+_, _-_, _≤_, _<_, min, min-le-left, min-le-right, arith, _≡_, refl, sym, ap, _∙_, Bool, true, false, cond, List, [], _∷_, map, _⊎_, inl, inr, ⊎-elim, eqb, ltb, length, set, lt-ltb, eqb-true, eqb-false, every, entry, gathered, total}
 use Rattle.rules.specs.declared.book.{Section.Section}
 use Rattle.numbers.proofs.Entries.{entry-part, none-past, none-total, off-entry, off-total}
 use Rattle.numbers.proofs.Counts.{live, live-empty, live-some, live-off}
@@ -7,7 +7,7 @@ use Rattle.numbers.proofs.Tests.{together, below-or-not}
 use Rattle.numbers.proofs.Ranges.{total-entries}
 use Rattle.numbers.proofs.Orders.{largest-none}
 use Rattle.rules.specs.Expiry.{lowerSectionCode}
-use Rattle.rules.specs.Expiry.Passes.{Pair, stageOne}
+use Rattle.rules.specs.Expiry.Passes.{Pair, fullestBuyer, fullestElevator, stageOne}
 
 -- the lots of the pairs that pass a test
 abbrev pub pairLots : (Pair → Bool) → List Pair → ℕ
@@ -77,10 +77,10 @@ paired ss zero buyers elevators even enough =
 paired ss (suc turns) buyers elevators even enough = go (eqb amount 0) refl (paired ss turns _ _)
   where
     b : ℕ
-    b = largest (lowerSectionCode ss) buyers
+    b = fullestBuyer ss buyers
 
     e : ℕ
-    e = largest (λ (i j : ℕ). ltb i j) elevators
+    e = fullestElevator elevators
 
     amount : ℕ
     amount = min (entry buyers b) (entry elevators e)

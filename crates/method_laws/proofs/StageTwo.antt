@@ -1,5 +1,5 @@
 -- Stage two: the lines that a pass forms.
-use Rattle.numbers.proofs.Words.{ℕ, zero, suc, _+_, _-_, _≤_, _<_, min, arith, _≡_, refl, sym, ap, ap₂, _∙_, Bool, true, false, cond, List, [], _∷_, map, _⊎_, inl, inr, ⊎-elim, eqb, length, set, length-set, length-map, List·getD-map, getD-set-same, eqb-true, eqb-false, entry, listed, largest, gathered, total}
+use Rattle.numbers.proofs.Words.{ℕ, zero, suc, _+_, _-_, _≤_, _<_, min, arith, _≡_, refl, sym, ap, ap₂, _∙_, Bool, true, false, cond, List, [], _∷_, map, _⊎_, inl, inr, ⊎-elim, eqb, length, set, length-set, length-map, List·getD-map, getD-set-same, eqb-true, eqb-false, entry, listed, gathered, total}
 use Rattle.rules.specs.declared.book.{Section.Section, Notice.Notice}
 use Rattle.numbers.proofs.Ranges.{listed-at, listed-length, chosen-yes, chosen-no, sum-nothing, sum-changed, sum-part, sum-empty, total-part, total-nothing}
 use Rattle.numbers.proofs.Entries.{entry-place, none-total}
@@ -8,9 +8,9 @@ use Rattle.numbers.proofs.Orders.{largest-most, largest-none}
 use Rattle.numbers.proofs.Sums.{naturals, total-read-set}
 use Rattle.numbers.proofs.Tests.{below-or-not}
 use Rattle.numbers.proofs.Under.{under-none, under-sum, above-read}
-use Rattle.rules.specs.Book.{noticeOf}
+use Rattle.rules.specs.Book.{elevators, noticeOf}
 use Rattle.rules.specs.Expiry.{lowerSectionCode}
-use Rattle.rules.specs.Expiry.Passes.{Pair, Line, pairOf, offers, earlierPair, stageTwo}
+use Rattle.rules.specs.Expiry.Passes.{Pair, Line, withLots, pairOf, offers, earlierPair, fullestPair, fullestNotice, stageTwo}
 use Rattle.method_laws.proofs.StageOne.{pairLots}
 
 -- the lots of the lines that pass a test
@@ -22,7 +22,7 @@ abbrev pub livePairs : List Pair → ℕ
 livePairs ps = live (length ps) (λ (p : ℕ). pairOf ps p .lots)
 
 abbrev pub liveElevators : List Notice → List ℕ → ℕ
-liveElevators ns drawn = live 32 (λ (e : ℕ). total (offers ns drawn e))
+liveElevators ns drawn = live elevators (λ (e : ℕ). total (offers ns drawn e))
 
 -- what the lines of pairs and of what is drawn of the notices come to: all lots get a line, each line ends a pair or a notice, and the last at an elevator both
 pub record Lined (ns : List Notice) (ps : List Pair) (drawn : List ℕ) (ls : List Line) : Type 0 where
@@ -37,7 +37,7 @@ noPair = record { buyer = 0; elevator = 0; lots = 0 }
 
 -- what is left of a pair, of the pairs and of what is drawn when an amount is taken off a pair and off a notice
 abbrev pairLess : Pair → ℕ → Pair
-pairLess q amount = record { buyer = q .buyer; elevator = q .elevator; lots = q .lots - amount }
+pairLess q amount = withLots q (q .lots - amount)
 
 abbrev pairsLeft : List Pair → ℕ → ℕ → List Pair
 pairsLeft ps p amount = set ps p (pairLess (pairOf ps p) amount)
@@ -65,7 +65,7 @@ record Turn (ns : List Notice) (ps : List Pair) (drawn : List ℕ) (p k amount :
   long : length drawn ≡ length ns
   pair-place : p < length ps
   notice-place : k < length ns
-  elevator-place : noticeOf ns k .elevator < 32
+  elevator-place : noticeOf ns k .elevator < elevators
   there : noticeOf ns k .elevator ≡ pairOf ps p .elevator
   even : Even ns ps drawn
   above : 0 < amount
@@ -170,7 +170,7 @@ module _ {ns : List Notice} {ps : List Pair} {drawn : List ℕ} {p k amount : �
       let falls : (f : ℕ) → cond (eqb (noticeOf ns k .elevator) f) amount 0 + total (offers ns left f) ≡ total (offers ns drawn f) = λ f. drawn-falls (λ (j : ℕ). eqb (noticeOf ns j .elevator) f) in
       omega (
         arith,
-        live-apart 32 (λ (f : ℕ). total (offers ns drawn f)) (λ (f : ℕ). total (offers ns left f)) e (omega (arith, turn .elevator-place, turn .there))
+        live-apart elevators (λ (f : ℕ). total (offers ns drawn f)) (λ (f : ℕ). total (offers ns left f)) e (omega (arith, turn .elevator-place, turn .there))
             (λ f l other. omega (arith, falls f, chosen-no (noticeOf ns k .elevator) f amount 0 (λ s. other (sym s ∙ turn .there)))),
         one-above (total (offers ns drawn e)),
         one-above (total (offers ns left e)),
@@ -207,7 +207,7 @@ lined-none ns ps drawn no-pair no-notice =
     record {
       by-buyer = λ b. sym (pairs-none (λ (q : Pair). eqb (q .buyer) b) ps no-pair);
       by-notice = λ test. sym (nothing (λ (k : ℕ). test (noticeOf ns k .section) (noticeOf ns k .elevator)));
-      few = omega (arith, live-nothing 32 (λ (e : ℕ). total (offers ns drawn e)) (λ e h. nothing (λ (k : ℕ). eqb (noticeOf ns k .elevator) e)));
+      few = omega (arith, live-nothing elevators (λ (e : ℕ). total (offers ns drawn e)) (λ e h. nothing (λ (k : ℕ). eqb (noticeOf ns k .elevator) e)));
     }
   where
     nothing : (test : ℕ → Bool) → drawnBy ns test drawn ≡ 0
@@ -216,13 +216,13 @@ lined-none ns ps drawn no-pair no-notice =
 -- The pair and the notice that a turn takes
 module _ (ss : List Section) (ns : List Notice) (ps : List Pair) (drawn : List ℕ) where
   abbrev takenPair : ℕ
-  takenPair = largest (λ (i j : ℕ). earlierPair ss (pairOf ps i) (pairOf ps j)) (map (λ (q : Pair). q .lots) ps)
+  takenPair = fullestPair ss ps
 
   abbrev takenAt : ℕ
   takenAt = pairOf ps takenPair .elevator
 
   abbrev takenNotice : ℕ
-  takenNotice = largest (λ (i j : ℕ). lowerSectionCode ss (noticeOf ns i .section) (noticeOf ns j .section)) (offers ns drawn takenAt)
+  takenNotice = fullestNotice ss ns drawn takenAt
 
   abbrev taken : ℕ
   taken = min (pairOf ps takenPair .lots) (entry (offers ns drawn takenAt) takenNotice)
@@ -299,8 +299,8 @@ module _ (ss : List Section) (ns : List Notice) (ps : List Pair) (drawn : List �
         lined-none ns ps drawn no-pair no-notice
 
     -- where something is taken, it is of a pair and of a notice at its elevator
-    some-taken : length drawn ≡ length ns → ((k : ℕ) → k < length ns → noticeOf ns k .elevator < 32) → (taken ≡ 0 → ⊥) → Turn ns ps drawn takenPair takenNotice taken
-    some-taken long elevators some =
+    some-taken : length drawn ≡ length ns → ((k : ℕ) → k < length ns → noticeOf ns k .elevator < elevators) → (taken ≡ 0 → ⊥) → Turn ns ps drawn takenPair takenNotice taken
+    some-taken long standing some =
         let pair = pairOf ps takenPair .lots in
         let offered = entry (offers ns drawn takenAt) takenNotice in
         let here : 0 < offered = omega (arith, some) in
@@ -308,7 +308,7 @@ module _ (ss : List Section) (ns : List Notice) (ps : List Pair) (drawn : List �
           long = long;
           pair-place = pair-held (omega (arith, some));
           notice-place = notice-held here;
-          elevator-place = elevators takenNotice (notice-held here);
+          elevator-place = standing takenNotice (notice-held here);
           there = notice-at here;
           even = even;
           above = omega (arith, some);
@@ -318,30 +318,30 @@ module _ (ss : List Section) (ns : List Notice) (ps : List Pair) (drawn : List �
         }
 
     -- so a turn stops with nothing left, or has its line before the lines of what is left
-    one-turn : length drawn ≡ length ns → ((k : ℕ) → k < length ns → noticeOf ns k .elevator < 32) → (rest : List Line)
+    one-turn : length drawn ≡ length ns → ((k : ℕ) → k < length ns → noticeOf ns k .elevator < elevators) → (rest : List Line)
         → (Turn ns ps drawn takenPair takenNotice taken → Lined ns leftPairs leftDrawn rest) → (t : Bool) → eqb taken 0 ≡ t
         → Lined ns ps drawn (elim t [
           | true ↦ []
           | false ↦ record { buyer = pairOf ps takenPair .buyer; elevator = takenAt; seller = noticeOf ns takenNotice .section; lots = taken } ∷ rest
         ])
-    one-turn long elevators rest next true e = none-taken (eqb-true taken 0 e)
-    one-turn long elevators rest next false e =
-        let turn = some-taken long elevators (eqb-false taken 0 e) in
+    one-turn long standing rest next true e = none-taken (eqb-true taken 0 e)
+    one-turn long standing rest next false e =
+        let turn = some-taken long standing (eqb-false taken 0 e) in
         line-more turn rest (next turn)
 
 -- the lines of stage two, with turns enough for all pairs and notices that have lots
-pub lined : (ss : List Section) (ns : List Notice) (turns : ℕ) (ps : List Pair) (drawn : List ℕ) → length drawn ≡ length ns → ((k : ℕ) → k < length ns → noticeOf ns k .elevator < 32)
+pub lined : (ss : List Section) (ns : List Notice) (turns : ℕ) (ps : List Pair) (drawn : List ℕ) → length drawn ≡ length ns → ((k : ℕ) → k < length ns → noticeOf ns k .elevator < elevators)
     → ((e : ℕ) → pairLots (λ (p : Pair). eqb (p .elevator) e) ps ≡ total (offers ns drawn e)) → livePairs ps + live (length ns) (entry drawn) ≤ turns
     → Lined ns ps drawn (stageTwo ss ns turns ps drawn)
 unfolding stageTwo
-lined ss ns zero ps drawn long elevators even enough =
+lined ss ns zero ps drawn long standing even enough =
     lined-none ns ps drawn
     (live-empty (length ps) (λ (p : ℕ). pairOf ps p .lots) (omega (arith, enough)))
     (live-empty (length ns) (entry drawn) (omega (arith, enough)))
-lined ss ns (suc turns) ps drawn long elevators even enough =
+lined ss ns (suc turns) ps drawn long standing even enough =
     let ps′ = leftPairs ss ns ps drawn in
     let drawn′ = leftDrawn ss ns ps drawn in
-    one-turn ss ns ps drawn even long elevators (stageTwo ss ns turns ps′ drawn′)
-    (λ turn. lined ss ns turns ps′ drawn′ (long-left turn) elevators (even-left turn) (enough-left turn turns enough))
+    one-turn ss ns ps drawn even long standing (stageTwo ss ns turns ps′ drawn′)
+    (λ turn. lined ss ns turns ps′ drawn′ (long-left turn) standing (even-left turn) (enough-left turn turns enough))
     (eqb (taken ss ns ps drawn) 0)
     refl

@@ -1,5 +1,5 @@
 -- Steps 1 to 4: what is delivered is even over all codes, what stays inside is even in each code, and what goes outside is even.
-use Rattle.numbers.proofs.Words.{ℕ, _+_, _-_, _≤_, _<_, arith, _≡_, refl, sym, ap, ap₂, subst, _∙_, Bool, true, false, cond, false≢true, and-true, and-false, or-false, List, [], map, ⊎-elim, ltb, length, List·getD-map, ℤ, pos, negsuc, natAbs, _+ℤ_, _-ℤ_, lt-ltb, le-ltb, ltb-true, ltb-false, listed, entry, entryℤ, less, total, totalℤ}
+use Rattle.numbers.proofs.Words.{ℕ, _+_, _-_, _≤_, _<_, arith, _≡_, refl, sym, ap, ap₂, subst, _∙_, Bool, true, false, cond, false≢true, and-true, and-false, or-false, List, [], map, ⊎-elim, ltb, length, List·getD-map, ℤ, pos, negsuc, natAbs, _+ℤ_, _-ℤ_, lt-ltb, le-ltb, ltb-true, ltb-false, listed, entry, less, total, totalℤ}
 use Rattle.rules.specs.declared.book.{Section.Section, Notice.Notice}
 use Rattle.numbers.proofs.Whole.{plus, minus, ext, sum, difference, difference-size, difference-above, difference-below}
 use Rattle.numbers.proofs.Sums.{naturals, wholes}
@@ -10,11 +10,13 @@ use Rattle.rules.specs.Expiry.{isLong, isShort, opposed, onSideOf, netOfCode, c
 use Rattle.rules.specs.Expiry
 use Rattle.rules.specs.Expiry.Failing.{fails, failing}
 use Rattle.rules.specs.Expiry.Codes.{dOfCodes, givenInCodes}
-use Rattle.rules.specs.Expiry.Across.{dOverall, codeCaps, givenAcross}
+use Rattle.rules.specs.Expiry.Across.{dOverall, codeCap, givenAcross}
+use Rattle.method_laws.specs.Giving.{codeCaps}
 use Rattle.rules.specs.Expiry.Call.{delivered}
-use Rattle.method_laws.proofs.Greedy.{Given, given}
-use Rattle.method_laws.proofs.Across.{closed-even}
-use Rattle.method_laws.proofs.Sides.{sideOf, allOf, Within, lots-less, lots-most, side-classes, net-sides, on-side, chosen-within}
+use Rattle.method_laws.proofs.Shares.{Told, in-codes-within, across-within}
+use Rattle.method_laws.proofs.Greedy.{Given}
+use Rattle.method_laws.proofs.Across.{across-given, closed-even}
+use Rattle.method_laws.proofs.Sides.{sideOf, allOf, Within, lots-less, lots-most, side-classes, net-sides, on-side}
 
 -- what one number has over another, where it has more
 over-other : (a b : ℕ) → cond (ltb b a) ((b - a) + (a - b)) 0 ≡ a - b
@@ -55,7 +57,7 @@ positions-sides ss =
     whole (pos n) = refl
     whole (negsuc n) = refl
 
-module _ (ss : List Section) (ns : List Notice) (codes : (i : ℕ) → i < length ss → sectionOf ss i .settlement < 64) (even : totalℤ (map positionOf ss) ≡ pos 0) where
+module _ (ss : List Section) (ns : List Notice) (codes : (i : ℕ) → i < length ss → sectionOf ss i .settlement < 64) (told : Told ss) (even : totalℤ (map positionOf ss) ≡ pos 0) where
   -- the steps' lists, as `delivered` has them
   abbrev sizes : List ℕ
   sizes = map Expiry.size ss
@@ -85,18 +87,8 @@ module _ (ss : List Section) (ns : List Notice) (codes : (i : ℕ) → i < lengt
   unfolding failing
   failed-within i = omega (arith, sizes-at ss i, listed-under (length ss) (fails ss ns) (λ (j : ℕ). Expiry.size (sectionOf ss j)) i)
 
-  in-codes-within : (i : ℕ) → entry inCodes i ≤ entry sound i
-  unfolding givenInCodes
-  in-codes-within i =
-      let lots = chosen ss (λ (s : Section). opposed (positionOf s) (entryℤ gap (s .settlement))) sound in
-      omega (arith, given ss lots ltb (map natAbs gap) (total (map natAbs gap)) .each i, chosen-within ss (λ (s : Section). opposed (positionOf s) (entryℤ gap (s .settlement))) sound i)
-
-  across-given : Given ss (chosen ss (λ (s : Section). opposed (positionOf s) open′) left) (codeCaps ss open′ left) (natAbs open′) across
-  unfolding givenAcross
-  across-given = given ss (chosen ss (λ (s : Section). opposed (positionOf s) open′) left) ltb (codeCaps ss open′ left) (natAbs open′)
-
-  across-within : (i : ℕ) → entry across i ≤ entry left i
-  across-within i = omega (arith, across-given .each i, chosen-within ss (λ (s : Section). opposed (positionOf s) open′) left i)
+  across-gave : Given ss (chosen ss (λ (s : Section). opposed (positionOf s) open′) left) (codeCaps ss open′ left) (natAbs open′) across
+  across-gave = across-given ss codes told open′ left
 
   within-failed : Within ss failed
   unfolding Within
@@ -108,7 +100,7 @@ module _ (ss : List Section) (ns : List Notice) (codes : (i : ℕ) → i < lengt
 
   within-in-codes : Within ss inCodes
   unfolding Within
-  within-in-codes i = omega (arith, in-codes-within i, less-at sizes failed i, sizes-at ss i)
+  within-in-codes i = omega (arith, in-codes-within ss gap sound i, less-at sizes failed i, sizes-at ss i)
 
   pub within-left : Within ss left
   unfolding Within
@@ -117,7 +109,7 @@ module _ (ss : List Section) (ns : List Notice) (codes : (i : ℕ) → i < lengt
   -- on each side, what fails, what is given in the codes and what is left make up all lots
   made-up : (side : ℤ → Bool) → allOf ss side failed + allOf ss side inCodes + allOf ss side left ≡ allOf ss side sizes
   made-up side =
-      omega (arith, lots-less ss (λ (s : Section). side (positionOf s)) sizes failed failed-within, lots-less ss (λ (s : Section). side (positionOf s)) sound inCodes in-codes-within)
+      omega (arith, lots-less ss (λ (s : Section). side (positionOf s)) sizes failed failed-within, lots-less ss (λ (s : Section). side (positionOf s)) sound inCodes (in-codes-within ss gap sound))
 
   sizes-even : allOf ss isLong sizes ≡ allOf ss isShort sizes
   sizes-even =
@@ -150,13 +142,12 @@ module _ (ss : List Section) (ns : List Notice) (codes : (i : ℕ) → i < lengt
 
   -- step 3 gives from the side that faces what is open
   kept-even-from : (mine other : ℤ → Bool) → ((p : ℤ) → opposed p open′ ≡ mine p) → ((p : ℤ) → other p ≡ true → mine p ≡ false) → ((c : ℕ) → mine (netOfCode ss left c) ≡ ltb (sideOf ss other c left) (sideOf ss mine c left)) → ((c : ℕ) → natAbs (netOfCode ss left c) ≡ (sideOf ss other c left - sideOf ss mine c left) + (sideOf ss mine c left - sideOf ss other c left)) → natAbs open′ + allOf ss other left ≡ allOf ss mine left → allOf ss mine (less left across) ≡ allOf ss other (less left across)
-  unfolding codeCaps
-  kept-even-from mine other faced apart side-of-net size-of-net more = closed-even ss codes left open′ mine other faced apart cap more
+  unfolding codeCap
+  kept-even-from mine other faced apart side-of-net size-of-net more = closed-even ss codes told left open′ mine other faced apart cap more
     where
-      cap : (c : ℕ) → c < 64 → entry (codeCaps ss open′ left) c ≡ sideOf ss mine c left - sideOf ss other c left
+      cap : (c : ℕ) → c < 64 → codeCap ss open′ left c ≡ sideOf ss mine c left - sideOf ss other c left
       cap c h =
-          listed-at 64 (λ (e : ℕ). cond (opposed (netOfCode ss left e) open′) (natAbs (netOfCode ss left e)) 0) c 0 h
-          ∙ ap₂ (λ (t : Bool) (n : ℕ). cond t n 0) (faced (netOfCode ss left c) ∙ side-of-net c) (size-of-net c)
+          ap₂ (λ (t : Bool) (n : ℕ). cond t n 0) (faced (netOfCode ss left c) ∙ side-of-net c) (size-of-net c)
           ∙ over-other (sideOf ss mine c left) (sideOf ss other c left)
 
   pub kept-even : allOf ss isLong (delivered ss ns) ≡ allOf ss isShort (delivered ss ns)
@@ -188,7 +179,7 @@ module _ (ss : List Section) (ns : List Notice) (codes : (i : ℕ) → i < lengt
 
       level : x ≤ y → y ≤ x → allOf ss isLong (less left across) ≡ allOf ss isShort (less left across)
       level h k =
-          omega (arith, h, k, left-open, size-of-open, across-given .needed, lots-most ss (λ (s : Section). isLong (positionOf s)) across (across-given .long), lots-most ss (λ (s : Section). isShort (positionOf s)) across (across-given .long), lots-less ss (λ (s : Section). isLong (positionOf s)) left across across-within, lots-less ss (λ (s : Section). isShort (positionOf s)) left across across-within)
+          omega (arith, h, k, left-open, size-of-open, across-gave .needed, lots-most ss (λ (s : Section). isLong (positionOf s)) across (across-gave .long), lots-most ss (λ (s : Section). isShort (positionOf s)) across (across-gave .long), lots-less ss (λ (s : Section). isLong (positionOf s)) left across (across-within ss open′ left), lots-less ss (λ (s : Section). isShort (positionOf s)) left across (across-within ss open′ left))
 
   pub within-kept : Within ss (delivered ss ns)
   unfolding Within

@@ -5,8 +5,8 @@ ghost use Rattle.rules.specs.Expiry.Passes;
 ghost use Rattle.method_passes.specs.Pairs.{pairsIn, linesIn};
 use crate::largest;
 use crate::offers;
-use method_giving::taken;
 use rules::book::Book;
+use value::lots;
 
 // How often lines are formed at most: never where there is no pair or no notice.
 fn most_turns(count: usize, filed: usize) -> usize
@@ -52,7 +52,7 @@ pub fn form_lines(
         let has = amounts[p];
         let k = largest::notice(b, drawn, elevator);
         let offered = offers::offer(b, drawn, elevator, k);
-        let amount = taken::smaller(has, offered);
+        let amount = lots::smaller(has, offered);
         if amount == 0 {
             break;
         }

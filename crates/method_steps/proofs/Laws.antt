@@ -1,19 +1,18 @@
 -- What the steps' calls need of one another: an order holds numbers of sections held, and nets are small.
-use Rattle.numbers.proofs.Words.{ℕ, zero, suc, _+_, _-_, _*_, _≤_, _<_, not-suc-le-zero, le-of-suc-le-suc, arith, _≡_, refl, sym, ap, ap₂, subst, _∙_, Bool, List, [], _∷_, _++_, map, ⊎-elim, length, take, drop, replicate, length-append, length-map, List·getD-map, take-at, ltb, ℤ, pos, natAbs, _+ℤ_, counted, listed, entry, entryℤ, less, ordered, gathered, total, totalℤ}
+use Rattle.numbers.proofs.Words.{ℕ, zero, suc, _-_, _*_, _≤_, _<_, not-suc-le-zero, le-of-suc-le-suc, arith, _≡_, refl, sym, ap, subst, _∙_, Bool, List, [], _∷_, _++_, map, ⊎-elim, length, take, drop, replicate, length-append, length-map, List·getD-map, take-at, ℤ, pos, natAbs, _+ℤ_, counted, listed, entry, entryℤ, less, ordered, gathered, totalℤ}
 use Rattle.rules.specs.declared.book.{Book.Book, Section.Section, Notice.Notice}
 use Rattle.numbers.proofs.Sums.{wholes}
 use Rattle.numbers.proofs.Ranges.{sum-more, listed-at, listed-past, listed-under, less-at, getD-past}
 use Rattle.numbers.proofs.Tests.{below-or-not}
 use Rattle.numbers.proofs.Whole.{sum-within}
-use Rattle.rules.specs.Book.{heldSections, filedNotices, positionOf, sectionOf, sectionOfNoughts}
+use Rattle.rules.specs.Book.{heldSections, filedNotices, sectionOf, sectionOfNoughts}
 use Rattle.rules.specs.Expiry
-use Rattle.rules.specs.Expiry.{opposed, chosen, earlier, inOrder, netOfCode}
+use Rattle.rules.specs.Expiry.{earlier, netOfCode}
 use Rattle.rules.specs.Expiry.Failing.{fails, failing}
 use Rattle.rules.specs.Expiry.Codes.{dOfCodes, givenInCodes}
-use Rattle.rules.specs.Expiry.Across.{dOverall, codeCaps, givenAcross}
+use Rattle.rules.specs.Expiry.Across.{dOverall, givenAcross}
 use Rattle.rules.specs.Expiry.Call.{delivered}
-use Rattle.method_laws.proofs.Greedy.{given}
-use Rattle.method_laws.proofs.Sides.{chosen-within}
+use Rattle.method_laws.specs.Giving.{inOrder}
 use Rattle.book_laws.proofs.Good.{Good}
 use Rattle.book_laws.proofs.Held.{held-length, held-good}
 use Rattle.method_holding.proofs.Laws.{held-at, adds, adds-most, net-all}
@@ -28,15 +27,6 @@ pub noughts-front : (n m : ℕ) → n ≤ m → take {A = ℕ} n (replicate m 0)
 noughts-front zero m h = refl
 noughts-front (suc n) zero h = absurd (not-suc-le-zero h)
 noughts-front (suc n) (suc m) h = ap (λ (ns : List ℕ). 0 ∷ ns) (noughts-front n m (le-of-suc-le-suc h))
-
--- lists that hold the same at each number
-counted-same : {A : Type 0} (f g : ℕ → A) (a n : ℕ) → ((i : ℕ) → i < a + n → f i ≡ g i) → map f (counted a n) ≡ map g (counted a n)
-unfolding counted
-counted-same f g a zero h = refl
-counted-same f g a (suc n) h = ap₂ _∷_ (h a (omega arith)) (counted-same f g (suc a) n (λ i l. h i (omega (arith, l))))
-
-pub listed-same : {A : Type 0} (n : ℕ) (f g : ℕ → A) → ((i : ℕ) → i < n → f i ≡ g i) → listed n f ≡ listed n g
-listed-same n f g h = counted-same f g 0 n (λ i l. h i (omega (arith, l)))
 
 -- the front of a list that was lent, filled and given back
 module _ (n : ℕ) (whole front : List ℕ) (long : length front ≡ n) where
@@ -109,18 +99,6 @@ module _ (ss : List Section) where
   pub failed-within : (ns : List Notice) (i : ℕ) → entry (failing ss ns) i ≤ entry (map Expiry.size ss) i
   unfolding failing
   failed-within ns i = omega (arith, sizes-at i, listed-under (length ss) (fails ss ns) (λ (j : ℕ). Expiry.size (sectionOf ss j)) i)
-
-  pub in-codes-within : (gap : List ℤ) (sound : List ℕ) (i : ℕ) → entry (givenInCodes ss gap sound) i ≤ entry sound i
-  unfolding givenInCodes
-  in-codes-within gap sound i =
-      let test : Section → Bool = λ (s : Section). opposed (positionOf s) (entryℤ gap (s .settlement)) in
-      omega (arith, given ss (chosen ss test sound) ltb (map natAbs gap) (total (map natAbs gap)) .each i, chosen-within ss test sound i)
-
-  pub across-within : (d : ℤ) (left : List ℕ) (i : ℕ) → entry (givenAcross ss d left) i ≤ entry left i
-  unfolding givenAcross
-  across-within d left i =
-      let test : Section → Bool = λ (s : Section). opposed (positionOf s) d in
-      omega (arith, given ss (chosen ss test left) ltb (codeCaps ss d left) (natAbs d) .each i, chosen-within ss test left i)
 
   pub delivered-within : (ns : List Notice) (i : ℕ) → entry (delivered ss ns) i ≤ entry (map Expiry.size ss) i
   unfolding delivered

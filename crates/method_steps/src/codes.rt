@@ -16,7 +16,7 @@ pub fn give_in_codes(b: Book, gaps: &[i64], sound: &[u64], given: &mut [u64])
     let held = b.held;
     let mut lots = [0; 128];
     let mut caps = [0; 64];
-    chosen::opposed_in_codes(b, gaps, sound, &mut lots[..held]);
+    chosen::on_side_in_codes(b, gaps, false, sound, &mut lots[..held]);
     lists::magnitudes(gaps, &mut caps);
     let need = lists::sum(&caps);
     ordered::give(b, &lots[..held], false, &mut caps, need, given);

@@ -18,7 +18,7 @@ pub fn outside(b: Book, kept: &[u64], far: &mut [u64])
     let mut caps = [0; 64];
     let mut net = [0; 64];
     nets::nets(b, kept, &mut net);
-    chosen::agreed_in_codes(b, &net, kept, &mut lots[..held]);
+    chosen::on_side_in_codes(b, &net, true, kept, &mut lots[..held]);
     lists::magnitudes(&net, &mut caps);
     let need = lists::sum(&caps);
     ordered::give(b, &lots[..held], true, &mut caps, need, far);

@@ -32,11 +32,25 @@ unfolding counted
 counted-shift f a zero = refl
 counted-shift {A = A} f a (suc n) = ap (λ (xs : List A). f (suc a) ∷ xs) (counted-shift f (suc a) n)
 
+-- lists that hold the same at each number
+counted-same : {A : Type 0} (f g : ℕ → A) (a n : ℕ) → ((i : ℕ) → i < a + n → f i ≡ g i) → map f (counted a n) ≡ map g (counted a n)
+unfolding counted
+counted-same f g a zero h = refl
+counted-same f g a (suc n) h = ap₂ _∷_ (h a (omega arith)) (counted-same f g (suc a) n (λ i l. h i (omega (arith, l))))
+
+pub listed-same : {A : Type 0} (n : ℕ) (f g : ℕ → A) → ((i : ℕ) → i < n → f i ≡ g i) → listed n f ≡ listed n g
+listed-same n f g h = counted-same f g 0 n (λ i l. h i (omega (arith, l)))
+
 -- a list holds its entries
 pub listed-entries : {A : Type 0} (xs : List A) (d : A) → listed (length xs) (λ (i : ℕ). getD xs i d) ≡ xs
 unfolding counted
 listed-entries [] d = refl
 listed-entries {A = A} (x ∷ xs) d = ap (λ (ys : List A). x ∷ ys) (counted-shift (λ (i : ℕ). getD (x ∷ xs) i d) 0 (length xs) ∙ listed-entries xs d)
+
+-- so does a list of n entries that are known
+pub listed-known : {A : Type 0} (n : ℕ) (xs : List A) (d : A) (f : ℕ → A) → length xs ≡ n → ((i : ℕ) → i < n → getD xs i d ≡ f i) → xs ≡ listed n f
+listed-known n xs d f long same =
+    sym (listed-entries xs d) ∙ ap (λ (m : ℕ). listed m (λ (i : ℕ). getD xs i d)) long ∙ listed-same n _ f same
 
 -- and what is read of them
 pub listed-read : {A B : Type 0} (f : A → B) (xs : List A) (d : A) → listed (length xs) (λ (i : ℕ). f (getD xs i d)) ≡ map f xs
@@ -72,12 +86,14 @@ left-all all = record { long = refl; within = λ i. omega arith }
 pub left-less : (all left taken : List ℕ) → Left all left → Left all (less left taken)
 left-less all left taken h = record { long = listed-length (length left) _ ∙ h .long; within = λ i. omega (arith, less-at left taken i, h .within i) }
 
--- no entry of what is listed under a test is more than what is read there
+-- no entry of what is listed is more than a limit at each number
+pub listed-most : (n : ℕ) (f g : ℕ → ℕ) → ((i : ℕ) → f i ≤ g i) → (i : ℕ) → entry (listed n f) i ≤ g i
+listed-most n f g le i =
+    ⊎-elim (λ (h : i < n). omega (arith, le i, listed-at n f i 0 h)) (λ (h : n ≤ i). omega (arith, listed-past n f i 0 h)) (below-or-not i n)
+
+-- and what is listed under a test no more than what is read there
 pub listed-under : (n : ℕ) (test : ℕ → Bool) (f : ℕ → ℕ) (i : ℕ) → entry (listed n (λ (j : ℕ). cond (test j) (f j) 0)) i ≤ f i
-listed-under n test f i =
-    ⊎-elim (λ (h : i < n). rw (listed-at n (λ (j : ℕ). cond (test j) (f j) 0) i 0 h) (under-within (test i) (f i)))
-    (λ (h : n ≤ i). omega (arith, listed-past n (λ (j : ℕ). cond (test j) (f j) 0) i 0 h))
-    (below-or-not i n)
+listed-under n test f = listed-most n (λ (j : ℕ). cond (test j) (f j) 0) f (λ i. under-within (test i) (f i))
 
 -- what is read where two numbers are the same, and where they are not
 module _ {A : Type 0} (i j : ℕ) (x y : A) where

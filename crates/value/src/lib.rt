@@ -7,6 +7,7 @@ use rules::limits::FACTOR_UNIT;
 use rules::units::Kopecks;
 use rules::units::Lots;
 
+pub mod lots;
 pub mod signed;
 
 // The one rounding: n / d to a whole number, a half upwards (01, Value, 4).

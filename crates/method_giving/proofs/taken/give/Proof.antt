@@ -3,7 +3,7 @@ use Rattle.numbers.proofs.Words.{needs, ℕ, _+_, _-_, _≤_, _<_, min, arith, 
 use Rattle.rules.specs.declared.book.{Book.Book, Section.Section}
 use Rattle.numbers.proofs.Lists.{has, from-here}
 use Rattle.rules.specs.Book.{heldSections, sectionAt, sectionOfNoughts}
-use Rattle.rules.specs.Expiry.{takenFrom}
+use Rattle.method_laws.specs.Giving.{takenFrom}
 use Rattle.book_laws.proofs.Good.{Good, facts}
 use Rattle.book_laws.proofs.Held.{held-good}
 use Rattle.method_giving.proofs.taken.give.Statement.{statement}

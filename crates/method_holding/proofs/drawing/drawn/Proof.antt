@@ -10,27 +10,27 @@ use Rattle.method_holding.proofs.drawing.drawn.Statement.{statement}
 use Rattle.method_holding.proofs.drawing.drawn.Tie as tie
 
 abbrev Inv-loop : tie.InvT-loop
-Inv-loop b from upto out₀ filed k₀ out k = Filled (entry (drawn (heldSections b) (filedNotices b) from upto)) out₀ out k
+Inv-loop b first out₀ filed k₀ out k = Filled (entry (drawn (heldSections b) (filedNotices b) first)) out₀ out k
 
 abbrev μ-loop : tie.MeasureT-loop
-μ-loop b from upto out₀ filed k₀ out k = filed - k
+μ-loop b first out₀ filed k₀ out k = filed - k
 
 book : (c : tie.Start Inv-loop μ-loop) → Good (c .args .b)
 book c = facts _ (c .pre .0 .0)
 
-room : (c : tie.In-loop Inv-loop μ-loop) → c .before .loop .k < length (c .before .before .before .before .before .args .out .now)
-room c = omega (arith, c .loop-test .taken, c .before .before .before .before .before .pre .1)
+room : (c : tie.In-loop Inv-loop μ-loop) → c .before .loop .k < length (c .before .before .before .before .args .out .now)
+room c = omega (arith, c .loop-test .taken, c .before .before .before .before .pre .1)
 
 place : (c : tie.In-loop Inv-loop μ-loop) → c .before .loop .k < 256
-place c = omega (arith, c .loop-test .taken, book (c .before .before .before .before .before) .filed)
+place c = omega (arith, c .loop-test .taken, book (c .before .before .before .before) .filed)
 
 loop-holds : tie.Need-loop-holds Inv-loop μ-loop
 loop-holds c = filled-none _ _
 
 share-requires : tie.Need-share-requires Inv-loop μ-loop
 share-requires c κs =
-    let pre = c .before .before .before .before .before .pre .0 in
-    (pre .0, c .loop-test .taken, pre .1, pre .2)
+    let pre = c .before .before .before .before .pre .0 in
+    (pre .0, c .loop-test .taken, pre .1)
 
 mul-out : tie.Need-mul-out Inv-loop μ-loop
 mul-out c = omega (arith, place (c .before))
@@ -52,10 +52,10 @@ same-length c = filled-length (c .before .loop .inv)
 
 returns : tie.Need-returns Inv-loop μ-loop
 returns c =
-    let start = c .before .before .before .before .before in
+    let start = c .before .before .before .before in
     let a = start .args in
-    let all = drawn (heldSections (a .b)) (filedNotices (a .b)) (a .from .now) (a .upto .now) in
-    let count = drawn-length (a .b) (book start) (a .from .now) (a .upto .now) in
+    let all = drawn (heldSections (a .b)) (filedNotices (a .b)) (a .first .now) in
+    let count = drawn-length (a .b) (book start) (a .first .now) in
     filled-end (c .before .loop .inv) (omega (arith, c .loop-test .left, start .pre .1)) (length all) (start .pre .1 ∙ sym count)
     ∙ listed-entries all 0
 

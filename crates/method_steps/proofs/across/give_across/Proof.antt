@@ -1,12 +1,15 @@
 -- The calls' `ensures`, one after the other.
 use Rattle.numbers.proofs.Words.{needs, ℕ, _≡_, sym, ap, ap₂, _∙_, cond, List, ltb, length, length-take-le, ℤ, pos, natAbs, now, toZ-ofZ, entryℤ, listed}
 use Rattle.rules.specs.declared.book.{Section.Section}
-use Rattle.numbers.proofs.Ranges.{listed-at}
+use Rattle.numbers.proofs.Ranges.{listed-at, listed-same}
 use Rattle.rules.specs.Book.{heldSections, positionOf}
-use Rattle.rules.specs.Expiry.{opposed, netOfCode, chosen, inOrder, taken}
-use Rattle.rules.specs.Expiry.Across.{codeCaps, givenAcross}
+use Rattle.rules.specs.Expiry.{opposed, netOfCode, chosen}
+use Rattle.rules.specs.Expiry.Across.{codeCap}
+use Rattle.method_laws.specs.Giving.{inOrder, taken, codeCaps}
+use Rattle.method_laws.proofs.Shares.{taken-across}
 use Rattle.book_laws.proofs.Good.{Good, facts}
-use Rattle.method_steps.proofs.Laws.{noughts, front-is, front-fits, front-length, listed-same}
+use Rattle.book_laws.proofs.Held.{held-told, held-codes}
+use Rattle.method_steps.proofs.Laws.{noughts, front-is, front-fits, front-length}
 use Rattle.method_steps.proofs.across.give_across.Statement.{statement}
 use Rattle.method_steps.proofs.across.give_across.Tie as tie
 
@@ -29,7 +32,7 @@ lots-are c =
 
 -- the caps that the third call leaves
 caps-are : (c : tie.After-code-caps) → let a = c .before .before .before .before .before .before .before .before .before .before .before .args in c .code-caps .last .1 .1 .0 ≡ codeCaps (heldSections (a .b)) (a .d) (now (a .left))
-unfolding codeCaps
+unfolding codeCap
 caps-are c =
     let at = c .before .before .before .before in
     let start = at .before .before .before .before .before .before .before in
@@ -93,7 +96,6 @@ same-length : tie.Need-same-length
 same-length c = search needs
 
 returns : tie.Need-returns
-unfolding givenAcross
 returns c =
     let gave = c .before .before .before in
     let counted = gave .before .before .before .before .before .before in
@@ -105,6 +107,7 @@ returns c =
     gave .give .ensures
     ∙ ap₂ (λ (lots caps : List ℕ). give lots caps (gave .before .before .before .before .size .result)) (front-is _ noughts (lots at) (lots-long at) ∙ lots-are at) (caps-are counted)
     ∙ ap (give _ _) (gave .before .before .before .before .size .ensures ∙ ap natAbs (toZ-ofZ (start .fits .d)))
+    ∙ taken-across ss (held-told (a .b) (book start)) (held-codes (a .b) (book start)) (a .d) (now (a .left))
 
 pub give-across-spec : {M : Type 1} → statement M
 give-across-spec =

@@ -1,9 +1,12 @@
 -- The calls' `ensures`, one after the other.
-use Rattle.numbers.proofs.Words.{needs, ℕ, _≤_, arith, _≡_, sym, ap, ap₂, subst, _∙_, List, ltb, length, length-take-le, now, entry, total}
+use Rattle.numbers.proofs.Words.{needs, ℕ, _≤_, arith, _≡_, sym, ap, ap₂, subst, _∙_, false, List, ltb, length, length-take-le, now, entry, total}
+use Rattle.numbers.proofs.Ranges.{listed-length}
 use Rattle.rules.specs.Book.{heldSections}
-use Rattle.rules.specs.Expiry.{inOrder, taken}
 use Rattle.rules.specs.Expiry.Codes.{givenInCodes}
+use Rattle.method_laws.specs.Giving.{inOrder, taken}
+use Rattle.method_laws.proofs.Shares.{taken-sizes}
 use Rattle.book_laws.proofs.Good.{Good, facts}
+use Rattle.book_laws.proofs.Held.{held-told}
 use Rattle.method_steps.proofs.Laws.{noughts, front-is, front-fits, front-length, sizes-small}
 use Rattle.method_steps.proofs.codes.give_in_codes.Statement.{statement}
 use Rattle.method_steps.proofs.codes.give_in_codes.Tie as tie
@@ -12,20 +15,20 @@ book : (c : tie.Start) → Good (c .args .b)
 book c = facts _ (c .pre .0 .0)
 
 -- the lots that the first call leaves
-abbrev lots : (c : tie.After-opposed-in-codes) → List ℕ
-lots c = c .opposed-in-codes .last .1 .1 .1 .0
+abbrev lots : (c : tie.After-on-side-in-codes) → List ℕ
+lots c = c .on-side-in-codes .last .1 .1 .1 .1 .0
 
-lots-long : (c : tie.After-opposed-in-codes) → length (lots c) ≡ c .before .before .before .before .args .b .held
-lots-long c = c .opposed-in-codes .kept .1 .1 .1 .0 ∙ length-take-le _ noughts (book (c .before .before .before .before) .held)
+lots-long : (c : tie.After-on-side-in-codes) → length (lots c) ≡ c .before .before .before .before .args .b .held
+lots-long c = c .on-side-in-codes .kept .1 .1 .1 .1 .0 ∙ length-take-le _ noughts (book (c .before .before .before .before) .held)
 
 array-borrow-prefix-lots : tie.Need-array-borrow-prefix-lots
 array-borrow-prefix-lots c = book (c .before .before) .held
 
-slice-aggregate-opposed-in-codes : tie.Need-slice-aggregate-opposed-in-codes
-slice-aggregate-opposed-in-codes c = sym (length-take-le _ noughts (book (c .before .before .before) .held))
+slice-aggregate-on-side-in-codes : tie.Need-slice-aggregate-on-side-in-codes
+slice-aggregate-on-side-in-codes c = sym (length-take-le _ noughts (book (c .before .before .before) .held))
 
-opposed-in-codes-requires : tie.Need-opposed-in-codes-requires
-opposed-in-codes-requires c κs =
+on-side-in-codes-requires : tie.Need-on-side-in-codes-requires
+on-side-in-codes-requires c κs =
     let start = c .before .before .before in
     (start .pre .0 .0, start .pre .0 .2, length-take-le _ noughts (book start .held), start .pre .0 .1)
 
@@ -80,16 +83,17 @@ returns c =
     let ss = heldSections (start .args .b) in
     let give : List ℕ → List ℕ → ℕ → List ℕ = λ (lots caps : List ℕ) (need : ℕ). taken ss (inOrder ltb ss lots) lots caps need in
     gave .give .ensures
-    ∙ ap₂ (λ (lots caps : List ℕ). give lots caps (summed .sum .result)) (front-is _ noughts (lots at) (lots-long at) ∙ at .opposed-in-codes .ensures) (sized .magnitudes .ensures)
+    ∙ ap₂ (λ (lots caps : List ℕ). give lots caps (summed .sum .result)) (front-is _ noughts (lots at) (lots-long at) ∙ at .on-side-in-codes .ensures) (sized .magnitudes .ensures)
     ∙ ap (give _ _) (summed .sum .ensures ∙ ap total (sized .magnitudes .ensures))
+    ∙ taken-sizes ss (held-told (start .args .b) (book start)) false _ (now (start .args .gaps)) (listed-length (length ss) _)
 
 pub give-in-codes-spec : {M : Type 1} → statement M
 give-in-codes-spec =
     tie.close
     (tie.spec
     array-borrow-prefix-lots
-    slice-aggregate-opposed-in-codes
-    opposed-in-codes-requires
+    slice-aggregate-on-side-in-codes
+    on-side-in-codes-requires
     slice-aggregate-magnitudes
     magnitudes-requires
     slice-aggregate-sum

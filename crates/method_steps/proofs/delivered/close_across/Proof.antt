@@ -2,8 +2,9 @@
 use Rattle.numbers.proofs.Words.{needs, ℕ, _≡_, refl, sym, ap, _∙_, List, _++_, length, take, drop, length-take-le, ℤ, now, toZ-ofZ, less}
 use Rattle.rules.specs.Book.{heldSections}
 use Rattle.rules.specs.Expiry.Across.{givenAcross}
+use Rattle.method_laws.proofs.Shares.{across-within}
 use Rattle.book_laws.proofs.Good.{Good, facts}
-use Rattle.method_steps.proofs.Laws.{noughts, front-is, front-fits, front-length, noughts-front, within-as, across-within}
+use Rattle.method_steps.proofs.Laws.{noughts, front-is, front-fits, front-length, noughts-front, within-as}
 use Rattle.method_steps.proofs.delivered.close_across.Statement.{statement}
 use Rattle.method_steps.proofs.delivered.close_across.Tie as tie
 

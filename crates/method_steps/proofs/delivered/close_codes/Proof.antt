@@ -1,12 +1,13 @@
 -- The calls' `ensures`, one after the other.
 use Rattle.numbers.proofs.Words.{needs, ℕ, _≤_, arith, _≡_, refl, sym, ap, subst, _∙_, List, _++_, length, take, drop, length-take-le, ℤ, pos, natAbs, _+ℤ_, now, toZ-ofZ, entry, entryℤ, listed, less, totalℤ}
-use Rattle.numbers.proofs.Ranges.{listed-at}
+use Rattle.numbers.proofs.Ranges.{listed-at, listed-same}
 use Rattle.rules.specs.Book.{heldSections}
 use Rattle.rules.specs.Expiry.{netOfCode}
 use Rattle.rules.specs.Expiry.Codes.{givenInCodes}
 use Rattle.rules.specs.Expiry.Across.{dOverall}
+use Rattle.method_laws.proofs.Shares.{in-codes-within}
 use Rattle.book_laws.proofs.Good.{Good, facts}
-use Rattle.method_steps.proofs.Laws.{noughts, front-is, front-fits, front-length, noughts-front, listed-same, nets-small, small-as, within-as, in-codes-within}
+use Rattle.method_steps.proofs.Laws.{noughts, front-is, front-fits, front-length, noughts-front, nets-small, small-as, within-as}
 use Rattle.method_steps.proofs.delivered.close_codes.Statement.{statement}
 use Rattle.method_steps.proofs.delivered.close_codes.Tie as tie
 

@@ -1,7 +1,7 @@
 -- The order that the first call leaves in the front of the local list is what the second call gives by.
 use Rattle.numbers.proofs.Words.{needs, ℕ, _<_, _≡_, sym, ap, ap₂, subst, _∙_, List, length, replicate, length-replicate, length-take-le, now, entry}
 use Rattle.rules.specs.Book.{heldSections}
-use Rattle.rules.specs.Expiry.{taken, takenFrom}
+use Rattle.method_laws.specs.Giving.{taken, takenFrom}
 use Rattle.book_laws.proofs.Good.{Good, facts}
 use Rattle.book_laws.proofs.Held.{held-length}
 use Rattle.method_steps.proofs.Laws.{noughts, order-below, front-length, front-fits, front-is}

@@ -3,21 +3,21 @@ use Rattle.numbers.proofs.Words.{needs, ℕ, _-_, _≤_, _<_, arith, _≡_, ap,
 use Rattle.rules.specs.declared.book.{Section.Section}
 use Rattle.numbers.proofs.Whole.{read-back}
 use Rattle.rules.specs.Book.{sectionAt, positionOf}
-use Rattle.rules.specs.Expiry.{opposed}
+use Rattle.method_laws.specs.Giving.{onSide}
 use Rattle.book_laws.proofs.Good.{facts}
 use Rattle.book_laws.proofs.Held.{held-good}
 use Rattle.method_giving.proofs.Laws.{chosenSoFar, chosen-start, chosen-next, chosen-length, chosen-end}
-use Rattle.method_giving.proofs.chosen.opposed_in_codes.Statement.{statement}
-use Rattle.method_giving.proofs.chosen.opposed_in_codes.Tie as tie
+use Rattle.method_giving.proofs.chosen.on_side_in_codes.Statement.{statement}
+use Rattle.method_giving.proofs.chosen.on_side_in_codes.Tie as tie
 
-abbrev test : List ℤ → Section → Bool
-test gaps s = opposed (positionOf s) (entryℤ gaps (s .settlement))
+abbrev test : Bool → List ℤ → Section → Bool
+test same numbers s = onSide same (positionOf s) (entryℤ numbers (s .settlement))
 
 abbrev Inv-loop : tie.InvT-loop
-Inv-loop gaps lots out₀ b held i₀ out i = (i ≤ b .held) × (out ≡ chosenSoFar b (test gaps) lots out₀ i)
+Inv-loop numbers same lots out₀ b held i₀ out i = (i ≤ b .held) × (out ≡ chosenSoFar b (test same numbers) lots out₀ i)
 
 abbrev μ-loop : tie.MeasureT-loop
-μ-loop gaps lots out₀ b held i₀ out i = held - i
+μ-loop numbers same lots out₀ b held i₀ out i = held - i
 
 place : (c : tie.In-loop Inv-loop μ-loop) → c .before .loop .i < 128
 place c = omega (arith, facts (c .before .before .before .before .args .t1) (c .before .before .before .before .pre .0) .held)
@@ -26,7 +26,7 @@ same-places : (c : tie.At-loop Inv-loop μ-loop) → length (c .loop .out) ≡ l
 same-places c =
     let start = c .before .before .before in
     let a = start .args in
-    ap length (c .loop .inv .1) ∙ chosen-length (a .t1) (test (now (a .gaps))) (now (a .lots)) (now (a .out)) (start .pre .2) (c .loop .i) (c .loop .inv .0)
+    ap length (c .loop .inv .1) ∙ chosen-length (a .t1) (test (a .same) (now (a .numbers))) (now (a .lots)) (now (a .out)) (start .pre .2) (c .loop .i) (c .loop .inv .0)
 
 -- the section of this turn
 abbrev section : (c : tie.In-loop Inv-loop μ-loop) → Section
@@ -35,7 +35,7 @@ section c = sectionAt (c .before .before .before .before .args .t1) (c .before .
 position-read : (c : tie.After-struct-told Inv-loop μ-loop) → let z = positionOf (section (c .before .before)) in toZ w64 (ofZ w64 z) ≡ z
 position-read c = read-back w64 _ (search)
 
-code-place : (c : tie.In-loop Inv-loop μ-loop) → section c .settlement < length (now (c .before .before .before .before .args .gaps))
+code-place : (c : tie.In-loop Inv-loop μ-loop) → section c .settlement < length (now (c .before .before .before .before .args .numbers))
 code-place c =
     let start = c .before .before .before .before in
     omega (arith, held-good (start .args .t1) (facts (start .args .t1) (start .pre .0)) (c .before .loop .i) (c .loop-test .taken) .settlement, start .pre .3)
@@ -43,7 +43,7 @@ code-place c =
 loop-holds : tie.Need-loop-holds Inv-loop μ-loop
 loop-holds c =
     let a = c .before .before .args in
-    (omega arith, chosen-start (a .t1) (test (now (a .gaps))) (now (a .lots)) (now (a .out)))
+    (omega arith, chosen-start (a .t1) (test (a .same) (now (a .numbers))) (now (a .lots)) (now (a .out)))
 
 mul-s : tie.Need-mul-s Inv-loop μ-loop
 mul-s c = omega (arith, place c)
@@ -60,8 +60,8 @@ mul-number c = omega (arith, code-place (c .before .before .before))
 shared-slice-copy-out-number : tie.Need-shared-slice-copy-out-number Inv-loop μ-loop
 shared-slice-copy-out-number c = code-place (c .before .before .before)
 
-opposed-requires : tie.Need-opposed-requires Inv-loop μ-loop
-opposed-requires c κs = search needs
+on-side-requires : tie.Need-on-side-requires Inv-loop μ-loop
+on-side-requires c κs = search needs
 
 mul-own : tie.Need-mul-own Inv-loop μ-loop
 mul-own c = omega (arith, place (c .before .before .before .before .before))
@@ -84,7 +84,7 @@ add-i c = omega (arith, place (c .before .before .before .before .before .before
 loop-less : tie.Need-loop-less Inv-loop μ-loop
 loop-less c = omega arith
 
-number-read : (c : tie.After-number Inv-loop μ-loop) → let z = entryℤ (now (c .before .before .before .before .before .before .before .before .args .gaps)) (section (c .before .before .before .before) .settlement) in toZ w64 (ofZ w64 z) ≡ z
+number-read : (c : tie.After-number Inv-loop μ-loop) → let z = entryℤ (now (c .before .before .before .before .before .before .before .before .args .numbers)) (section (c .before .before .before .before) .settlement) in toZ w64 (ofZ w64 z) ≡ z
 number-read c = read-back w64 _ (search)
 
 loop-again : tie.Need-loop-again Inv-loop μ-loop
@@ -97,9 +97,9 @@ loop-again c =
     let own = entry (now (a .lots)) i in (
       search needs,
       ap (λ (xs : List ℕ). set xs i (c .kept-if .result)) (at .loop .inv .1)
-          ∙ chosen-next (a .t1) (test (now (a .gaps))) (now (a .lots)) (now (a .out)) (start .pre .2) i (c .kept-if .result) (in-loop .loop-test .taken)
+          ∙ chosen-next (a .t1) (test (a .same) (now (a .numbers))) (now (a .lots)) (now (a .out)) (start .pre .2) i (c .kept-if .result) (in-loop .loop-test .taken)
           (c .kept-if .ensures
-          ∙ ap (λ (t : Bool). cond t own 0) (c .before .before .opposed .ensures ∙ ap₂ opposed (position-read (c .before .before .before .before .before)) (number-read (c .before .before .before)))),
+          ∙ ap (λ (t : Bool). cond t own 0) (c .before .before .on-side .ensures ∙ ap₂ (onSide (a .same)) (position-read (c .before .before .before .before .before)) (number-read (c .before .before .before)))),
     )
 
 same-length : tie.Need-same-length Inv-loop μ-loop
@@ -110,10 +110,10 @@ returns c =
     let at = c .before in
     let start = at .before .before .before in
     let a = start .args in
-    at .loop .inv .1 ∙ chosen-end (a .t1) (test (now (a .gaps))) (now (a .lots)) (now (a .out)) (start .pre .2) (start .pre .0) (at .loop .i) (omega arith)
+    at .loop .inv .1 ∙ chosen-end (a .t1) (test (a .same) (now (a .numbers))) (now (a .lots)) (now (a .out)) (start .pre .2) (start .pre .0) (at .loop .i) (omega arith)
 
-pub opposed-in-codes-spec : {M : Type 1} → statement M
-opposed-in-codes-spec =
+pub on-side-in-codes-spec : {M : Type 1} → statement M
+on-side-in-codes-spec =
     tie.close
     (tie.spec
     Inv-loop
@@ -124,7 +124,7 @@ opposed-in-codes-spec =
     cast-c
     mul-number
     shared-slice-copy-out-number
-    opposed-requires
+    on-side-requires
     mul-own
     shared-slice-read-own
     kept-if-requires
