@@ -1,4 +1,4 @@
--- What an accepted call says of its book and its inputs: none of the conditions that would refuse it holds.
+-- What an accepted call says of its book and its inputs: none of the conditions that would refuse it holds (demand 1).
 use Rattle.numbers.proofs.Words.{ℕ, _≤_, _<_, _%_, arith, _≡_, refl, Bool, true, false, not, _||_, List, leb, ltb, eqb, length, ℤ, pos, negℤ, natAbs, _+ℤ_, leb-true, leb-false, ltb-false, eqb-true, eqb-false, not-false, between, within, _and_, every}
 use Rattle.rules.specs.declared.book.{Book.Book}
 use Rattle.numbers.proofs.Tests.{both, or-left, or-right}

@@ -8,11 +8,11 @@ use Rattle.rules.specs.Calls.{Refusal, _if_, first, handedOut, answer}
 abbrev made : ℕ → Book → Answer
 made number book = record { number = number; book = book }
 
--- a refused call answers its number and the same book
+-- a refused call answers its number and the same book (01, Book, 7)
 pub refused : (n number : ℕ) (new old : Book) → n ≡ number → (n ≡ 0 → ⊥) → made n old ≡ answer number new old
 refused n number new old e ne = rw (sym e, ne-eqb n 0 ne, handedOut)
 
--- an accepted one 0 and the new book
+-- an accepted one 0 and the new book (01, Book, 6)
 pub accepted : (n number : ℕ) (book new old : Book) → n ≡ number → n ≡ 0 → book ≡ new → made n book ≡ answer number new old
 accepted n number book new old e z h = rw (sym e, z, h)
 
@@ -23,7 +23,7 @@ kept n number new old e ne = rw (sym e, ne-eqb n 0 ne, handedOut)
 pub written : {A : Type 0} (n number : ℕ) (new old : A) → n ≡ number → n ≡ 0 → new ≡ handedOut number new old
 written n number new old e z = rw (sym e, z)
 
--- a book that breaks its rules is refused before all else
+-- a book that breaks its rules is refused before all else (01, Book, 5)
 pub bad-book : (b : Book) (rest : List Refusal) → good b ≡ false → 1 ≡ first (1 if not (good b) ∷ rest)
 unfolding first
 bad-book b rest e = simp e

@@ -67,7 +67,7 @@ module _ (b : Book) (book : Good b) where
       (λ (l : j ≤ i). ⊎-elim (λ (m : j < i). absurd (differ j i m h (sym e))) (λ (m : i ≤ j). le-antisymm m l) (below-or-not j i))
       (below-or-not i j)
 
-  -- so section codes tell the sections apart
+  -- so section codes tell the sections apart (01, Book, 3)
   pub held-told : Ranks (length (heldSections b)) (lowerSectionCode (heldSections b))
   held-told =
       let code : ℕ → List ℕ = λ (i : ℕ). sectionOf ss i .code in

@@ -1,4 +1,4 @@
--- Whatever a call's number, the book in its answer is good if the book that it was given is. That an accepted call leaves
+-- Whatever a call's number, the book in its answer is good if the book that it was given is (01, Book, 5). That an accepted call leaves
 -- a good book is shown in the module of each call.
 use Rattle.numbers.proofs.Words.{ℕ, _≡_, refl, Bool, true, false, cond, List, eqb, eqb-true}
 use Rattle.rules.specs.declared.book.{Book.Book}

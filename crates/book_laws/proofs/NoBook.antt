@@ -1,4 +1,4 @@
--- The book of noughts breaks the rules, so every call refuses it with 1.
+-- The book of noughts breaks the rules, so every call refuses it with 1 (01, Book, 7).
 use Rattle.numbers.proofs.Words.{ℕ, _≡_, refl, sym, false, List}
 use Rattle.rules.specs.Book.{noBook, good, termsGood}
 use Rattle.rules.specs.Calls.{sectionNumber, tradeNumber, partyRefusals, sessionNumber, conditionNumber, noticeNumber}

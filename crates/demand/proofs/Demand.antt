@@ -1,117 +1,55 @@
--- Demand 3: what an accepted expiry delivers, and with it the one theorem over every list of calls.
-use Rattle.numbers.proofs.Words.{ℕ, _+_, _≤_, _<_, arith, _≡_, sym, ap, ap₂, _∙_, Bool, true, false, cond, _&&_, List, ⊎-elim, eqb, ltb, leb, length, getD-take, ℤ, natAbs, eq-eqb, ltb-true, leb-true, _and_, listed, entry, total, many}
-use Rattle.rules.specs.declared.book.{Book.Book, Section.Section, Notice.Notice}
-use Rattle.numbers.proofs.Sums.{naturals}
-use Rattle.numbers.proofs.Lists.{every-at, apart-at}
-use Rattle.numbers.proofs.Counts.{many-same}
-use Rattle.numbers.proofs.Ranges.{sum-same, sum-one, chosen-yes, chosen-no}
-use Rattle.numbers.proofs.Tests.{and-left, and-right, eqb-sym, below-or-not, same-or-not}
-use Rattle.rules.specs.Book.{good, sectionAt, noticeAt, sectionOf, noticeOf, heldSections, filedNotices, positionOf, noticesAlike, noticeGood}
-use Rattle.rules.specs.Calls.{first}
-use Rattle.rules.specs.Expiry.{isLong}
-use Rattle.rules.specs.Expiry.Passes.{Line}
-use Rattle.rules.specs.Expiry.Call.{Lists, delivered, lines, expiryRefusals}
-use Rattle.rules.specs.History.{Deal, net, Delivered, DemandThree, Register, drawnLots}
-use Rattle.book_laws.proofs.Good.{Good, facts}
-use Rattle.book_laws.proofs.Held.{held-length, filed-length, held-good}
-use Rattle.method_laws.proofs.StageTwo.{lineLots}
-use Rattle.method_laws.proofs.Delivery
-use Rattle.demand.proofs.Written
-use Rattle.demand.proofs.Run
+-- Demand 3, the one theorem over every list of calls.
+use Rattle.numbers.proofs.Words.{_≡_, refl, sym, ap, subst, _∙_, false, true≢false, List, [], _++_, flatMap, Every}
+use Rattle.rules.specs.declared.book.{Book.Book}
+use Rattle.rules.specs.Book.{opened}
+use Rattle.rules.specs.Expiry.Call.{expiryAnswer, afterExpiry}
+use Rattle.rules.specs.History.{Call, section, trade, session, condition, notice, expiry, answerOf, Accepted, Register, registerOf, trades, registers, Delivered, DemandThree}
+use Rattle.book_laws.proofs.Answers.{written}
+use Rattle.demand.proofs.Cut.{more, registers-more}
+use Rattle.demand.proofs.Refused.{running}
+use Rattle.demand.proofs.Run.{run}
+use Rattle.demand.proofs.State.{Reached, opened-reached, reached-next}
+use Rattle.demand.proofs.Delivers.{delivers}
 
-module _ (b : Book) (ls : Lists) (deals : List Deal) (sound : good b ≡ true) (accepted : first (expiryRefusals b ls) ≡ 0) (nets : (i : ℕ) → net deals i ≡ positionOf (sectionAt b i)) where
-  abbrev ss : List Section
-  ss = heldSections b
+-- what a list of calls reaches, and what its expiry delivers; a book that has not expired has seen none (demand 3.2; 01, Expiry call, 3)
+record Stands (b : Book) (past : List Accepted) : Type 0 where
+  reached : Reached b past
+  delivered : Every (Delivered (trades past)) (registers past)
+  none : b .expired ≡ false → registers past ≡ []
 
-  abbrev ns : List Notice
-  ns = filedNotices b
+-- the register of one call: only an expiry has one, and it ends the book
+record Ends (b : Book) (calls : List Accepted) (c : Call) (new : Book) : Type 0 where
+  delivered : Every (Delivered (trades calls)) (registerOf b c)
+  none : new .expired ≡ false → registerOf b c ≡ []
 
-  book : Good b
-  book = facts b sound
+ends : (b : Book) (past : List Accepted) → Reached b past → (c : Call) → answerOf b c .number ≡ 0 → Ends b (more past b c) c (answerOf b c .book)
+unfolding registerOf answerOf expiryAnswer afterExpiry Every
+ends b past was (section settlement code participant seller) e = record { delivered = tt; none = λ not-yet. refl }
+ends b past was (trade buyer seller price lots) e = record { delivered = tt; none = λ not-yet. refl }
+ends b past was (session price list) e = record { delivered = tt; none = λ not-yet. refl }
+ends b past was (condition i met) e = record { delivered = tt; none = λ not-yet. refl }
+ends b past was (notice i elevator lots) e = record { delivered = tt; none = λ not-yet. refl }
+ends b past was (expiry ls) e =
+    let after = written _ _ (afterExpiry b) b refl e in
+    let then : Reached (afterExpiry b) (more past b (expiry ls)) = subst (λ (new : Book). Reached new (more past b (expiry ls))) (sym after) (reached-next b past was (expiry ls) e) in
+    record {
+      delivered = (delivers b ls (trades (more past b (expiry ls))) (was .book) e (then .nets), tt);
+      none = λ not-yet. absurd (true≢false (ap (λ (new : Book). new .expired) after ∙ not-yet));
+    }
 
-  held : length ss ≡ b .held
-  held = held-length b (book .section-places) (book .held)
+next : (b : Book) (past : List Accepted) → Stands b past → (c : Call) → answerOf b c .number ≡ 0 → Stands (answerOf b c .book) (more past b c)
+next b past was c e =
+    let end = ends b past (was .reached) c e in
+    let last : registers (more past b c) ≡ registerOf b c = registers-more past b c ∙ ap (λ (gs : List Register). gs ++ registerOf b c) (was .none (running b c e)) in
+    record {
+      reached = reached-next b past (was .reached) c e;
+      delivered = subst (Every (Delivered (trades (more past b c)))) (sym last) (end .delivered);
+      none = λ not-yet. last ∙ end .none not-yet;
+    }
 
-  filed : length ns ≡ b .filed
-  filed = filed-length b (book .notice-places) (book .filed)
-
-  -- a section held and a notice filed are those of the book's places
-  section-is : (i : ℕ) → i < length ss → sectionOf ss i ≡ sectionAt b i
-  section-is i h = getD-take (b .held) (b .sections) i _ (omega (arith, h, held))
-
-  notice-is : (k : ℕ) → k < length ns → noticeOf ns k ≡ noticeAt b k
-  notice-is k h = getD-take (b .filed) (b .notices) k _ (omega (arith, h, filed))
-
-  codes : (i : ℕ) → i < length ss → sectionOf ss i .settlement < 64
-  codes i h = omega (arith, ap (λ (s : Section). s .settlement) (section-is i h), held-good b book i (omega (arith, h, held)) .settlement)
-
-  noticed : (k : ℕ) → k < length ns → noticeGood (b .held) (noticeOf ns k) ≡ true
-  noticed k h = every-at (noticeGood (b .held)) ns k _ (book .notices) h
-
-  sections : (k : ℕ) → k < length ns → noticeOf ns k .section < length ss
-  unfolding noticeGood
-  sections k h = omega (arith, held, ltb-true (noticeOf ns k .section) (b .held) (and-left (ltb (noticeOf ns k .section) (b .held)) _ (noticed k h)))
-
-  elevators : (k : ℕ) → k < length ns → noticeOf ns k .elevator < 32
-  unfolding noticeGood
-  elevators k h = omega (arith, leb-true (noticeOf ns k .elevator) 31 (and-left (leb (noticeOf ns k .elevator) 31) _ (and-right (ltb (noticeOf ns k .section) (b .held)) _ (noticed k h))))
-
-  -- what is drawn of notice k, inside and outside
-  abbrev drawnOf : ℕ → ℕ
-  drawnOf k = Delivery.drawnAt ss ns codes (book .positions) sections elevators k
-
-  -- no other notice has its section and its elevator
-  abbrev alike : ℕ → ℕ → Bool
-  alike n k = eqb (noticeOf ns k .section) (noticeOf ns n .section) && eqb (noticeOf ns k .elevator) (noticeOf ns n .elevator)
-
-  alone : (n k : ℕ) → n < length ns → k < length ns → (n ≡ k → ⊥) → alike n k ≡ false
-  alone n k hn hk ne =
-      ⊎-elim (λ (l : k < n). apart-at noticesAlike ns _ k n (book .notices-apart) l hn)
-      (λ (l : n ≤ k).
-      ap₂ _&&_ (eqb-sym (noticeOf ns k .section) (noticeOf ns n .section)) (eqb-sym (noticeOf ns k .elevator) (noticeOf ns n .elevator))
-      ∙ apart-at noticesAlike ns _ n k (book .notices-apart) (omega (arith, l, ne)) hk)
-      (below-or-not k n)
-
-  only-it : (n : ℕ) → n < length ns → total (listed (length ns) (λ (k : ℕ). cond (alike n k) (drawnOf k) 0)) ≡ drawnOf n
-  only-it n h = sum-same _+_ 0 naturals (length ns) _ _ (λ k l. ⊎-elim (here k) (λ ne. ap (λ (t : Bool). cond t (drawnOf k) 0) (alone n k h l ne) ∙ sym (chosen-no n k (drawnOf n) 0 ne)) (same-or-not n k)) ∙ sum-one _+_ 0 naturals (length ns) n (drawnOf n) h
-    where
-      here : (k : ℕ) → n ≡ k → cond (alike n k) (drawnOf k) 0 ≡ cond (eqb n k) (drawnOf n) 0
-      here k e = ap (λ (t : Bool). cond t (drawnOf k) 0) (ap₂ _&&_ (eq-eqb (noticeOf ns k .section) (noticeOf ns n .section) (ap (λ (j : ℕ). noticeOf ns j .section) (sym e))) (eq-eqb (noticeOf ns k .elevator) (noticeOf ns n .elevator) (ap (λ (j : ℕ). noticeOf ns j .elevator) (sym e)))) ∙ ap drawnOf (sym e) ∙ sym (chosen-yes n k (drawnOf n) 0 e)
-
-  -- a notice's drawn lots in the register
-  drawn-lots : (n : ℕ) → n < length ns → drawnLots (Written.written b ls accepted) n ≡ drawnOf n
-  drawn-lots n h =
-      Written.written-notice b ls accepted n
-      ∙ ap (λ (m : Notice). lineLots (λ (l : Line). eqb (l .seller) (m .section) && eqb (l .elevator) (m .elevator)) (lines ss ns)) (sym (notice-is n h))
-      ∙ Delivery.noticed-lots ss ns codes (book .positions) sections elevators (λ (s e : ℕ). eqb s (noticeOf ns n .section) && eqb e (noticeOf ns n .elevator))
-      ∙ only-it n h
-
-  -- delivering long sections and drawn notices, counted as the list of calls sees them and as the method does
-  abbrev register : Register
-  register = Written.written b ls accepted
-
-  longs : many (b .held) (λ (i : ℕ). isLong (net deals i) and ltb 0 (entry (register .lists .delivered) i)) ≡ many (length ss) (λ (i : ℕ). isLong (positionOf (sectionOf ss i)) and ltb 0 (entry (delivered ss ns) i))
-  longs =
-      ap (λ (n : ℕ). many n (λ (i : ℕ). isLong (net deals i) and ltb 0 (entry (register .lists .delivered) i))) (sym held)
-      ∙ many-same (length ss) _ _ (λ i h. ap₂ (λ (p : ℤ) (n : ℕ). isLong p && ltb 0 n) (nets i ∙ ap positionOf (sym (section-is i h))) (Written.written-delivered b ls accepted i (omega (arith, h, held))))
-
-  drawns : many (b .filed) (λ (n : ℕ). ltb 0 (drawnLots register n)) ≡ many (length ns) (λ (k : ℕ). ltb 0 (drawnOf k))
-  drawns =
-      ap (λ (n : ℕ). many n (λ (k : ℕ). ltb 0 (drawnLots register k))) (sym filed)
-      ∙ many-same (length ns) _ _ (λ k h. ap (ltb 0) (drawn-lots k h))
-
-  pub delivers : Delivered deals register
-  delivers =
-      record {
-        made-up = λ i h. Written.made-up b ls accepted i h ∙ ap natAbs (sym (nets i));
-        registered = λ i h. Written.written-section b ls accepted i ∙ Delivery.registered ss ns codes (book .positions) sections elevators i (omega (arith, h, held)) ∙ sym (Written.written-delivered b ls accepted i h);
-        drawn-within =
-            λ n h.
-            let filed-too : n < length ns = omega (arith, h, filed) in
-            omega (arith, drawn-lots n filed-too, Delivery.both-within ss ns codes (book .positions) sections elevators n, ap (λ (m : Notice). natAbs (m .lots .0)) (notice-is n filed-too));
-        lines-within = λ more. omega (arith, Written.written-lines b ls accepted, longs, drawns, Delivery.lines-below ss ns codes (book .positions) sections elevators (omega (arith, more, Written.written-lines b ls accepted)));
-      }
-
--- "For every list of section, trade, session, condition, notice and expiry calls, refused ones among them, from a newly opened book .. this holds after it."
+-- for every list of calls from the book of an accepted opening (demand 3; 01, Calls, 1 and 2)
 pub demand-three : DemandThree
-demand-three = Run.demand-three delivers
+unfolding DemandThree flatMap Every
+demand-three lot w r e calls =
+    let all = run Stands next calls (opened lot w r) [] (record { reached = opened-reached lot w r e; delivered = tt; none = λ not-yet. refl }) in
+    record { sessions-even = all .reached .even; delivered = all .delivered; telescoped = all .reached .settled }

@@ -1,6 +1,9 @@
-pub mod Written
-pub mod State
-pub mod Steps
+pub mod Cut
 pub mod Refused
 pub mod Run
+pub mod Steps
+pub mod State
+pub mod Specification
+pub mod Written
+pub mod Delivers
 pub mod Demand

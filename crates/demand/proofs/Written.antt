@@ -35,7 +35,7 @@ terminated-left : (ss : List Section) (kept : List ℕ) → Left (map size ss) (
 unfolding terminated
 terminated-left ss kept = left-less (map size ss) (map size ss) kept (left-all (map size ss))
 
--- the two make up each section's lots
+-- the two make up each section's lots (01, Expiry, 1.2)
 delivered-terminated : (ss : List Section) (ns : List Notice) (i : ℕ) → i < length ss → entry (delivered ss ns) i + entry (terminated ss (delivered ss ns)) i ≡ size (sectionOf ss i)
 unfolding terminated
 delivered-terminated ss ns i h = omega (arith, less-at (map size ss) (delivered ss ns) i, delivered-left ss ns .within i, read-at size ss i (sectionOfNoughts []) 0 h)
@@ -53,12 +53,12 @@ module _ (b : Book) (ls : Lists) (accepted : first (expiryRefusals b ls) ≡ 0) 
   unfolding expiryRefusals
   written-book = facts b (not-false _ (first-none _ _ (omega arith) accepted .0))
 
-  -- it counts all lines formed
+  -- it counts all lines formed (01, Calls, 7)
   pub written-lines : written .lines ≡ length formed
   unfolding expiryAnswer
   written-lines = ap (λ (n : ℕ). count n formed) accepted
 
-  -- and hands out the lists written
+  -- and hands out the lists written (01, Calls, 5)
   written-lists : written .lists ≡ expiryWritten b ls
   unfolding expiryLists
   written-lists = ap (λ (n : ℕ). handedOut n (expiryWritten b ls) ls) accepted
@@ -80,11 +80,11 @@ module _ (b : Book) (ls : Lists) (accepted : first (expiryRefusals b ls) ≡ 0) 
       (λ k h. rw (at (λ l. l .buyer) (ls .buyers) k h, at (λ l. l .elevator) (ls .elevators) k h, at (λ l. l .seller) (ls .sellers) k h, at (λ l. l .lots) (ls .lots) k h))
       ∙ ap total (listed-read (λ (l : Line). cond (test (l .buyer) (l .elevator) (l .seller)) (l .lots) 0) formed blank)
 
-  -- a section's lots in the register are those of the lines formed that name it
+  -- a section's lots in the register are those of the lines formed that name it (01, Calls, 8)
   pub written-section : (i : ℕ) → registerLots written i ≡ lineLots (λ (l : Line). eqb (l .buyer) i || eqb (l .seller) i) formed
   written-section i = written-where (λ (buyer elevator seller : ℕ). eqb buyer i || eqb seller i)
 
-  -- a notice's drawn lots are those of the lines formed with its section as seller at its elevator
+  -- a notice's drawn lots are those of the lines formed with its section as seller at its elevator (01, Calls, 9)
   pub written-notice : (n : ℕ) → drawnLots written n ≡ lineLots (λ (l : Line). eqb (l .seller) (noticeAt b n .section) && eqb (l .elevator) (noticeAt b n .elevator)) formed
   written-notice n = written-where (λ (buyer elevator seller : ℕ). eqb seller (noticeAt b n .section) && eqb elevator (noticeAt b n .elevator))
 
@@ -109,7 +109,7 @@ module _ (b : Book) (ls : Lists) (accepted : first (expiryRefusals b ls) ≡ 0) 
       ap (λ (w : Lists). entry (w .terminated) i) written-lists
       ∙ over-at (terminated ss kept) (ls .terminated) i 0 (omega (arith, h, sections-held, terminated-left ss kept .long, length-map ss size))
 
-  -- which make up the size of its position
+  -- which make up the size of its position (demand 3.2)
   pub made-up : (i : ℕ) → i < b .held → entry (written .lists .delivered) i + entry (written .lists .terminated) i ≡ natAbs (positionOf (sectionAt b i))
   made-up i h =
       ap₂ _+_ (written-delivered i h) (written-terminated i h)

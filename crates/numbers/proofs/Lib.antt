@@ -13,3 +13,4 @@ pub mod Entries
 pub mod Counts
 pub mod Orders
 pub mod Filled
+pub mod Put

@@ -1,4 +1,4 @@
--- What a condition call does: the mark of one section, and nothing else.
+-- What a condition call does: the mark of one section, and nothing else (01, Condition, 1).
 use Rattle.numbers.proofs.Words.{ℕ, _<_, _≡_, refl, sym, ap, _∙_, Bool, List, [], getD, List·getD-map, getD-set-same, getD-set-other, map-set-same}
 use Rattle.rules.specs.declared.book.{Book.Book, Section.Section}
 use Rattle.rules.specs.Book.{sectionAt, sectionOfNoughts}

@@ -1,4 +1,4 @@
--- What a notice call does: one notice more at the end, and no section is touched.
+-- What a notice call does: one notice more at the end, and no section is touched (01, Book, 1).
 use Rattle.numbers.proofs.Words.{ℕ, _+_, _<_, arith, _≡_, refl, getD-set-same, getD-set-other, pos}
 use Rattle.rules.specs.declared.book.{Book.Book}
 use Rattle.rules.specs.Book.{noticeAt, blankNotice}

@@ -2,7 +2,7 @@
 use Rattle.numbers.proofs.Words.{_≡_, sym, subst}
 use Rattle.rules.specs.declared.book.{Book.Book, Section.Section}
 
--- the contract's terms, so V too, and the expired mark
+-- the contract's terms, so V too, and the expired mark (01, Value, 5)
 pub record SameTerms (new old : Book) : Type 0 where
   pub lot : new .lot ≡ old .lot
   pub w : new .w ≡ old .w

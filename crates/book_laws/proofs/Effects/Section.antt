@@ -1,4 +1,4 @@
--- What a section call does: one section more, and those held stay as they were.
+-- What a section call does: one section more, and those held stay as they were (01, Book, 1).
 use Rattle.numbers.proofs.Words.{ℕ, _+_, _<_, arith, _≡_, refl, sym, ap, _∙_, Bool, false, ⊎-elim, List, [], getD-set-same, getD-set-other, pos}
 use Rattle.rules.specs.declared.book.{Book.Book, Section.Section}
 use Rattle.numbers.proofs.Tests.{same-or-not}
@@ -41,7 +41,7 @@ module _ (b : Book) (s : Section) where
   unfolding withSection
   section-held = refl
 
--- a new section
+-- a new section (01, Book, 3)
 pub record New (s : Section) (settlement : ℕ) (code : List ℕ) (participant : ℕ) (seller : Bool) : Type 0 where
   pub settlement-is : s .settlement ≡ settlement
   pub code-is : s .code ≡ code
