@@ -1,11 +1,11 @@
 // Stage one: pairs of buyers and elevators.
 ghost use Rattle.rules.specs.Words.{_≡_, true, ℕ, _+_, _≤_, _<_, length, entry};
-ghost use Rattle.rules.specs.Book.{good, heldSections, filedNotices};
+ghost use Rattle.rules.specs.Book.{good, heldSections};
 ghost use Rattle.rules.specs.Expiry.Passes;
 ghost use Rattle.method_passes.specs.Pairs.{pairsIn};
 use crate::largest;
-use method_giving::taken;
 use rules::book::Book;
+use value::lots;
 
 // Entry i of a list, 0 past its end.
 fn read(list: &[u64], i: usize) -> u64
@@ -39,7 +39,7 @@ pub fn form_pairs(
         let elevator = largest::elevator(elevators);
         let has = read(buyers, buyer);
         let stands = read(elevators, elevator);
-        let amount = taken::smaller(has, stands);
+        let amount = lots::smaller(has, stands);
         if amount == 0 {
             break;
         }
