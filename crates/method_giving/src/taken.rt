@@ -1,18 +1,9 @@
 // Sections of an order give what they have, while their code's cap and the whole need last.
-ghost use Rattle.rules.specs.Words.{_≡_, true, ℕ, _≤_, _<_, min, length, entry};
+ghost use Rattle.rules.specs.Words.{_≡_, true, ℕ, _<_, length, entry};
 ghost use Rattle.rules.specs.Book.{good, heldSections};
 ghost use Rattle.method_laws.specs.Giving.{takenFrom};
 use rules::book::Book;
-
-// The smaller of two numbers.
-pub fn smaller(x: u64, y: u64) -> u64
-    ensures { λ r. ⌜ r ≡ min x y ⌝ }
-{
-    if x < y {
-        return x;
-    }
-    y
-}
+use value::lots;
 
 // What each section of an order gives; `given` holds what was given before.
 pub fn give(b: Book, order: &[usize], lots: &[u64], caps: &mut [u64], need: u64, given: &mut [u64])
@@ -29,8 +20,8 @@ pub fn give(b: Book, order: &[usize], lots: &[u64], caps: &mut [u64], need: u64,
         let c = s.settlement as usize;
         let cap = caps[c];
         let own = lots[i];
-        let within = smaller(cap, left);
-        let amount = smaller(own, within);
+        let within = lots::smaller(cap, left);
+        let amount = lots::smaller(own, within);
         caps[c] = cap - amount;
         left -= amount;
         given[i] = amount;

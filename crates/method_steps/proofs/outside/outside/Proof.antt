@@ -18,10 +18,10 @@ book c = facts _ (c .pre .0)
 
 -- the lots that the second call leaves
 abbrev lots : (c : tie.After-on-side-in-codes) → List ℕ
-lots c = c .on-side-in-codes .last .1 .1 .1 .0
+lots c = c .on-side-in-codes .last .1 .1 .1 .1 .0
 
 lots-long : (c : tie.After-on-side-in-codes) → length (lots c) ≡ c .before .before .before .before .before .before .before .before .args .b .held
-lots-long c = c .on-side-in-codes .kept .1 .1 .1 .0 ∙ length-take-le _ noughts (book (c .before .before .before .before .before .before .before .before) .held)
+lots-long c = c .on-side-in-codes .kept .1 .1 .1 .1 .0 ∙ length-take-le _ noughts (book (c .before .before .before .before .before .before .before .before) .held)
 
 lots-are : (c : tie.After-on-side-in-codes)
     → let a = c .before .before .before .before .before .before .before .before .args in
