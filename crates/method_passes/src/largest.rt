@@ -1,9 +1,9 @@
 // The place of most lots, among equal ones by the paper's keys.
-ghost use Rattle.rules.specs.Words.{_≡_, true, cond, _&&_, _||_, ℕ, _≤_, _<_, ltb, eqb, length, entry};
+ghost use Rattle.rules.specs.Words.{_≡_, true, cond, [], _&&_, _||_, ℕ, _≤_, _<_, ltb, eqb, length, entry};
 ghost use Rattle.rules.specs.Book.{good, heldSections, filedNotices, noticeOf};
 ghost use Rattle.rules.specs.Expiry;
 ghost use Rattle.rules.specs.Expiry.Passes;
-ghost use Rattle.method_passes.specs.Pairs.{pairsIn};
+ghost use Rattle.method_passes.specs.Pairs.{pairAt, pairsIn};
 use crate::offers;
 use method_order::sections;
 use rules::book::Book;
@@ -87,7 +87,7 @@ pub fn notice(b: Book, drawn: &[u64], elevator: usize) -> usize
 fn earlier_pair(b: Book, buyers: &[usize], elevators: &[usize], i: usize, j: usize) -> bool
     requires { ⌜ (good b ≡ true) × (i < length (now buyers)) × (j < length (now buyers)) × (i < length (now elevators)) × (j < length (now elevators)) ⌝ }
     requires { ⌜ (entry (now buyers) i < b .held) × (entry (now buyers) j < b .held) ⌝ }
-    ensures { λ r. ⌜ r ≡ Passes.earlierPair (heldSections b) (record { buyer = entry (now (buyers .entry)) i; elevator = entry (now (elevators .entry)) i; lots = 0 }) (record { buyer = entry (now (buyers .entry)) j; elevator = entry (now (elevators .entry)) j; lots = 0 }) ⌝ }
+    ensures { λ r. ⌜ r ≡ Passes.earlierPair (heldSections b) (pairAt (now (buyers .entry)) (now (elevators .entry)) [] i) (pairAt (now (buyers .entry)) (now (elevators .entry)) [] j) ⌝ }
 {
     let mine = buyers[i];
     let its = buyers[j];
