@@ -194,7 +194,14 @@ pub none-formed : (b : Book) (turns : ℕ) (bs es takers stores amounts : List �
 unfolding counted
 none-formed b turns bs es takers stores amounts h e hb he ht hs ha =
     record {
-      book = h; turns-are = e; within = omega arith; buyers-long = hb; elevators-long = he; takers-long = ht; stores-long = hs; amounts-long = ha;
+      book = h;
+      turns-are = e;
+      within = omega arith;
+      buyers-long = hb;
+      elevators-long = he;
+      takers-long = ht;
+      stores-long = hs;
+      amounts-long = ha;
       takers-held = λ k l. absurd (not-suc-le-zero l);
       stores-stand = λ k l. absurd (not-suc-le-zero l);
       all = ap (λ (n : ℕ). stageOne (heldSections b) n bs es) (omega arith);
