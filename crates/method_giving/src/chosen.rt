@@ -1,5 +1,5 @@
 // The lots of the sections that a step takes, and 0 for all others.
-ghost use Rattle.rules.specs.Words.{_≡_, true, cond, ℕ, length, entryℤ};
+ghost use Rattle.rules.specs.Words.{_≡_, true, cond, length, entryℤ};
 ghost use Rattle.rules.specs.declared.book.Section.{Section};
 ghost use Rattle.rules.specs.Book.{good, heldSections, positionOf};
 ghost use Rattle.rules.specs.Expiry;

@@ -1,11 +1,11 @@
 -- What the steps' calls need of one another: an order holds numbers of sections held, and nets are small.
-use Rattle.numbers.proofs.Words.{ℕ, zero, suc, _+_, _-_, _*_, _≤_, _<_, not-suc-le-zero, le-of-suc-le-suc, arith, _≡_, refl, sym, ap, ap₂, subst, _∙_, Bool, List, [], _∷_, _++_, map, ⊎-elim, length, take, drop, replicate, length-append, length-map, List·getD-map, take-at, ltb, ℤ, pos, natAbs, _+ℤ_, counted, listed, entry, entryℤ, less, ordered, gathered, total, totalℤ}
+use Rattle.numbers.proofs.Words.{ℕ, zero, suc, _-_, _*_, _≤_, _<_, not-suc-le-zero, le-of-suc-le-suc, arith, _≡_, refl, sym, ap, subst, _∙_, Bool, List, [], _∷_, _++_, map, ⊎-elim, length, take, drop, replicate, length-append, length-map, List·getD-map, take-at, ℤ, pos, natAbs, _+ℤ_, counted, listed, entry, entryℤ, less, ordered, gathered, totalℤ}
 use Rattle.rules.specs.declared.book.{Book.Book, Section.Section, Notice.Notice}
 use Rattle.numbers.proofs.Sums.{wholes}
 use Rattle.numbers.proofs.Ranges.{sum-more, listed-at, listed-past, listed-under, less-at, getD-past}
 use Rattle.numbers.proofs.Tests.{below-or-not}
 use Rattle.numbers.proofs.Whole.{sum-within}
-use Rattle.rules.specs.Book.{heldSections, filedNotices, positionOf, sectionOf, sectionOfNoughts}
+use Rattle.rules.specs.Book.{heldSections, filedNotices, sectionOf, sectionOfNoughts}
 use Rattle.rules.specs.Expiry
 use Rattle.rules.specs.Expiry.{earlier, netOfCode}
 use Rattle.rules.specs.Expiry.Failing.{fails, failing}
