@@ -1,4 +1,4 @@
--- What is drawn of the notices of a short section, one after the other in filing order.
+-- What is drawn of the notices of a short section, one after the other in filing order (01, Expiry, 5.1).
 use Rattle.numbers.proofs.Words.{ℕ, zero, suc, _+_, _-_, min, _≤_, _<_, arith, _≡_, refl, sym, ap, subst, _∙_, Bool, true, false, cond, List, [], _∷_, _++_, ⊎-elim, eqb, ltb, length, take, take-suc, take-length, natAbs, ltb-true, eqb-true, _and_, counted, entry, listed, less, gathered, total, many}
 use Rattle.rules.specs.declared.book.{Section.Section, Notice.Notice}
 use Rattle.numbers.proofs.Tests.{both, below-or-not}

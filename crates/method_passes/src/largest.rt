@@ -1,4 +1,4 @@
-// The place of most lots, among equal ones by the paper's keys.
+// The place of most lots; ties by section code and elevator (01, Expiry, 6.4).
 ghost use Rattle.rules.specs.Words.{_≡_, true, cond, [], _&&_, _||_, ℕ, _≤_, _<_, ltb, eqb, length, entry};
 ghost use Rattle.rules.specs.Book.{good, heldSections, filedNotices, noticeOf};
 ghost use Rattle.rules.specs.Expiry;

@@ -1,4 +1,4 @@
-// Stage two: lines of pairs and notices.
+// Stage two: lines of pairs and notices (01, Expiry, 6.3).
 ghost use Rattle.rules.specs.Words.{_≡_, true, cond, _||_, ℕ, _+_, _≤_, _<_, eqb, length, entry, put};
 ghost use Rattle.rules.specs.Book.{good};
 ghost use Rattle.rules.specs.Expiry.Passes;
