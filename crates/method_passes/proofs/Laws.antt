@@ -1,8 +1,8 @@
 -- The place of the largest entry, found by a scan of the list: its start, one turn, and its end. What is drawn of the notices at an elevator. Stage one, as its loop goes.
-use Rattle.numbers.proofs.Words.{ℕ, zero, suc, _+_, _-_, _≤_, _<_, min, not-suc-le-zero, zero-add, add-one, arith, _≡_, refl, sym, ap, ap₂, _∙_, Bool, true, false, cond, _&&_, _||_, ⊎-elim, List, [], _∷_, _++_, map, map-map, map-append, append-assoc, append-nil, ltb, eqb, length, length-set, set, drop, drop-of-length-le, getD-take, getD-set-same, getD-set-other, ltb-true, eq-eqb, ne-eqb, entry, counted, listed, largestFrom, largest, gathered, total}
+use Rattle.numbers.proofs.Words.{ℕ, suc, _+_, _-_, _≤_, _<_, min, not-suc-le-zero, add-one, arith, _≡_, refl, sym, ap, ap₂, _∙_, Bool, true, false, cond, _&&_, _||_, ⊎-elim, List, [], _∷_, _++_, map, map-map, append-assoc, append-nil, ltb, eqb, length, length-set, set, drop, drop-of-length-le, getD-take, getD-set-same, getD-set-other, ltb-true, eq-eqb, ne-eqb, entry, counted, listed, largestFrom, largest, gathered, total}
 use Rattle.rules.specs.declared.book.{Book.Book, Notice.Notice, Section.Section}
 use Rattle.numbers.proofs.Lists.{has, from-here, every-has}
-use Rattle.numbers.proofs.Ranges.{counted-more, listed-length, listed-at, listed-under, sum-more}
+use Rattle.numbers.proofs.Ranges.{listed-same, listed-more, listed-length, listed-at, listed-under, sum-more}
 use Rattle.numbers.proofs.Entries.{entry-place}
 use Rattle.numbers.proofs.Sums.{naturals}
 use Rattle.numbers.proofs.Tests.{and-left, same-or-not}
@@ -102,19 +102,6 @@ module _ (buyers elevators lots : List ℕ) (count : ℕ) where
   pub pair-at : (k : ℕ) → k < count → pairOf (pairsIn buyers elevators lots count) k ≡ pairAt buyers elevators lots k
   pair-at k h = listed-at count (pairAt buyers elevators lots) k _ h
 
--- a list by number: one entry more, and entries that are the same
-module _ {A : Type 0} (f : ℕ → A) where
-  pub listed-more : (n : ℕ) → listed (suc n) f ≡ listed n f ++ (f n ∷ [])
-  listed-more n = ap (map f) (counted-more 0 n) ∙ map-append f (counted 0 n) ((0 + n) ∷ []) ∙ ap (λ (j : ℕ). listed n f ++ (f j ∷ [])) (zero-add n)
-
-pub listed-same : {A : Type 0} (f g : ℕ → A) (n : ℕ) → ((i : ℕ) → i < n → f i ≡ g i) → listed n f ≡ listed n g
-unfolding counted
-listed-same f g zero same = refl
-listed-same {A = A} f g (suc n) same =
-    listed-more f n
-    ∙ ap₂ (λ (xs : List A) (x : A). xs ++ (x ∷ [])) (listed-same f g n (λ i h. same i (omega arith))) (same n (omega arith))
-    ∙ sym (listed-more g n)
-
 ap₃ : {A B C D : Type 0} (f : A → B → C → D) {a a′ : A} {b b′ : B} {c c′ : C} → a ≡ a′ → b ≡ b′ → c ≡ c′ → f a b c ≡ f a′ b′ c′
 ap₃ f e e′ e″ = rw (e, e′, e″)
 
@@ -125,9 +112,9 @@ module _ (buyers elevators lots : List ℕ) (count : ℕ) (h : count < length bu
       let make : ℕ → ℕ → ℕ → Pair = λ (x y z : ℕ). record { buyer = x; elevator = y; lots = z } in
       let new : ℕ → Pair = pairAt (set buyers count buyer) (set elevators count elevator) (set lots count amount) in
       ap (λ (n : ℕ). listed n new) (add-one count)
-      ∙ listed-more new count
+      ∙ listed-more count new
       ∙ ap₂ (λ (ps : List Pair) (p : Pair). ps ++ (p ∷ []))
-      (listed-same new (pairAt buyers elevators lots) count (λ i l.
+      (listed-same count new (pairAt buyers elevators lots) (λ i l.
       let other : i ≡ count → ⊥ = λ e. absurd (omega (arith, l, e)) in
       ap₃ make (getD-set-other buyers count i buyer 0 other) (getD-set-other elevators count i elevator 0 other) (getD-set-other lots count i amount 0 other)))
       (ap₃ make (getD-set-same buyers count buyer 0 h) (getD-set-same elevators count elevator 0 h′) (getD-set-same lots count amount 0 h″))

@@ -1,14 +1,14 @@
 -- Stage two, as its loop goes: the pairs and what is drawn after a turn, and the lines formed so far.
 use Rattle.numbers.proofs.Words.{ℕ, zero, suc, _+_, _-_, _≤_, _<_, min, add-one, arith, _≡_, refl, sym, ap, _∙_, Bool, true, false, cond, _||_, ⊎-elim, List, [], _∷_, map, eqb, length, length-set, getD, set, drop, length-drop, drop-cons, getD-set-same, getD-set-other, eq-eqb, ne-eqb, eqb-true, eqb-false, entry, listed}
 use Rattle.rules.specs.declared.book.{Book.Book, Notice.Notice, Section.Section}
-use Rattle.numbers.proofs.Ranges.{getD-past, listed-entries, listed-length, listed-at, listed-past}
+use Rattle.numbers.proofs.Ranges.{getD-past, listed-known, listed-length, listed-at, listed-past}
 use Rattle.numbers.proofs.Orders.{largest-place}
 use Rattle.numbers.proofs.Tests.{or-cases, or-left, or-right, same-or-not}
 use Rattle.rules.specs.Book.{elevators, good, heldSections, filedNotices, noticeOf}
 use Rattle.rules.specs.Expiry.{lowerSectionCode}
 use Rattle.rules.specs.Expiry.Passes.{Pair, Line, withLots, offers, pairOf, earlierPair, fullestPair, fullestNotice, stageTwo}
 use Rattle.method_passes.specs.Pairs.{pairAt, pairsIn, linesIn}
-use Rattle.method_passes.proofs.Laws.{as-cond, listed-same, offers-length, offer-within, lots-length, pair-at}
+use Rattle.method_passes.proofs.Laws.{as-cond, offers-length, offer-within, lots-length, pair-at}
 
 -- a pair of which some is taken
 pub pairs-less : (takers stores amounts : List ℕ) (count p left : ℕ) → p < count → count ≤ length amounts
@@ -18,9 +18,7 @@ pairs-less takers stores amounts count p left below fit =
     let new : ℕ → Pair = pairAt takers stores (set amounts p left) in
     let none : Pair = record { buyer = 0; elevator = 0; lots = 0 } in
     let one : Pair = withLots (old p) left in
-    sym (listed-entries (set (listed count old) p one) none)
-    ∙ ap (λ (n : ℕ). listed n (λ (i : ℕ). getD (set (listed count old) p one) i none)) (length-set (listed count old) p one ∙ listed-length count old)
-    ∙ listed-same (λ (i : ℕ). getD (set (listed count old) p one) i none) new count (λ i l.
+    listed-known count (set (listed count old) p one) none new (length-set (listed count old) p one ∙ listed-length count old) (λ i l.
     ⊎-elim
     (λ (e : i ≡ p).
     ap (λ (j : ℕ). getD (set (listed count old) p one) j none) e
