@@ -1,9 +1,9 @@
 -- What the method's definitions say of a good book: of a section held, of a notice filed, and of sums over them, one after the other.
-use Rattle.numbers.proofs.Words.{ℕ, _+_, _-_, min, _≤_, _<_, le-of-lt, add-one, arith, _≡_, refl, sym, ap, ap₂, _∙_, Bool, true, false, not, cond, _||_, false≢true, List, [], _∷_, _++_, eqb, leb, ltb, length, take, take-suc, take-take, getD-take, ℤ, pos, negsuc, negℤ, natAbs, _+ℤ_, leZ, ltb-true, leb-true, _and_, counted, listed, entry, gathered, totalℤ}
+use Rattle.numbers.proofs.Words.{ℕ, _+_, _-_, min, _≤_, _<_, le-of-lt, add-one, arith, _≡_, refl, sym, ap, ap₂, _∙_, Bool, true, false, not, cond, _||_, false≢true, List, [], eqb, leb, ltb, length, take, take-take, getD-take, ℤ, pos, negsuc, negℤ, natAbs, _+ℤ_, leZ, ltb-true, leb-true, _and_, counted, listed, entry, gathered, totalℤ}
 use Rattle.rules.specs.declared.book.{Book.Book, Section.Section, Notice.Notice}
 use Rattle.numbers.proofs.Tests.{both}
 use Rattle.numbers.proofs.Lists.{every-has}
-use Rattle.numbers.proofs.Sums.{naturals, wholes, total-last}
+use Rattle.numbers.proofs.Sums.{wholes}
 use Rattle.numbers.proofs.Ranges.{sum-more, listed-length, listed-at}
 use Rattle.numbers.proofs.Under.{under-within}
 use Rattle.numbers.proofs.Whole.{size, negated}
@@ -12,6 +12,7 @@ use Rattle.rules.specs.Expiry
 use Rattle.rules.specs.Expiry.{isShort, onSideOf, netOfCode}
 use Rattle.rules.specs.Expiry.Failing.{noticed, fails}
 use Rattle.rules.specs.Expiry.Drawing.{drawn}
+use Rattle.method_laws.proofs.Drawing.{counts}
 use Rattle.book_laws.proofs.Good.{Good}
 use Rattle.book_laws.proofs.Held.{has-notice, filed-length}
 
@@ -81,24 +82,9 @@ notice-facts held n e =
 pub filed-good : (b : Book) → Good b → (k : ℕ) → k < b .filed → Filed (b .held) (noticeAt b k)
 filed-good b book k h = notice-facts _ _ (every-has (noticeGood (b .held)) (has-notice b (book .notice-places) (book .filed) k h) (book .notices))
 
--- the lots of one notice that count for a section
-abbrev pub counts : ℕ → Notice → ℕ
-counts i n = cond (eqb (n .section) i) (natAbs (n .lots .0)) 0
-
+-- what it counts for a section is few, too
 pub counts-most : (held i : ℕ) (n : Notice) → Filed held n → counts i n ≤ 1_000_000
 counts-most held i n filed = omega (arith, filed .lots, under-within (eqb (n .section) i) (natAbs (n .lots .0)))
-
--- no notice, and one notice more
-pub noticed-none : (i : ℕ) → noticed [] i ≡ 0
-unfolding noticed gathered
-noticed-none i = refl
-
-noticed-more : (ns : List Notice) (n : Notice) (i : ℕ) → noticed (ns ++ (n ∷ [])) i ≡ noticed ns i + counts i n
-unfolding noticed
-noticed-more ns n i = total-last _+_ 0 naturals (counts i) ns n
-
-pub noticed-next : (ns : List Notice) (i k : ℕ) → k < length ns → noticed (take (k + 1) ns) i ≡ noticed (take k ns) i + counts i (noticeOf ns k)
-noticed-next ns i k h = rw add-one (ap (λ (l : List Notice). noticed l i) (take-suc ns k blankNotice h) ∙ noticed-more (take k ns) (noticeOf ns k) i)
 
 -- a notice filed, by number
 filed-at : (b : Book) (k : ℕ) → k < b .filed → noticeOf (filedNotices b) k ≡ noticeAt b k

@@ -1,4 +1,4 @@
-// Step 5: what is drawn of the notices.
+// Step 5: what is drawn of the notices (01, Expiry, 5.1; 01, Expiry, 6.5).
 ghost use Rattle.rules.specs.Words.{_≡_, true, _<_, length, entry};
 ghost use Rattle.rules.specs.Book.{good, heldSections, filedNotices};
 ghost use Rattle.rules.specs.Expiry.Drawing;

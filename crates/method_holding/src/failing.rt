@@ -1,4 +1,4 @@
-// Step 1: who fails.
+// Step 1: who fails (01, Expiry, 1.1; 01, Expiry, 1.2).
 ghost use Rattle.rules.specs.Words.{_≡_, true, cond, map, _<_, length};
 ghost use Rattle.rules.specs.Book.{good, sectionAt, heldSections, filedNotices};
 ghost use Rattle.rules.specs.Expiry;

@@ -1,4 +1,4 @@
-// The net of a code's lots.
+// The net of a code's lots (01, Expiry, 2.1).
 ghost use Rattle.rules.specs.Words.{_≡_, true, cond, ℕ, _≤_, eqb, pos, length, entry, listed};
 ghost use Rattle.rules.specs.Book.{good, heldSections, positionOf};
 ghost use Rattle.rules.specs.Expiry;

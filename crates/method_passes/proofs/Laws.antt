@@ -1,14 +1,14 @@
 -- The place of the largest entry, found by a scan of the list: its start, one turn, and its end. What is drawn of the notices at an elevator. Stage one, as its loop goes.
-use Rattle.numbers.proofs.Words.{ℕ, zero, suc, _+_, _-_, _≤_, _<_, min, zero-add, add-one, arith, _≡_, refl, sym, ap, ap₂, _∙_, Bool, true, false, cond, _&&_, _||_, ⊎-elim, List, [], _∷_, _++_, map, map-map, map-append, append-assoc, append-nil, ltb, eqb, length, length-set, set, drop, drop-of-length-le, getD-take, getD-set-same, getD-set-other, ltb-true, eq-eqb, ne-eqb, entry, counted, listed, largestFrom, largest, gathered, total}
+use Rattle.numbers.proofs.Words.{ℕ, suc, _+_, _-_, _≤_, _<_, min, not-suc-le-zero, add-one, arith, _≡_, refl, sym, ap, ap₂, _∙_, Bool, true, false, cond, _&&_, _||_, ⊎-elim, List, [], _∷_, _++_, map, map-map, append-assoc, append-nil, ltb, eqb, length, length-set, set, drop, drop-of-length-le, getD-take, getD-set-same, getD-set-other, ltb-true, eq-eqb, ne-eqb, entry, counted, listed, largestFrom, largest, gathered, total}
 use Rattle.rules.specs.declared.book.{Book.Book, Notice.Notice, Section.Section}
 use Rattle.numbers.proofs.Lists.{has, from-here, every-has}
-use Rattle.numbers.proofs.Ranges.{counted-more, getD-past, listed-length, listed-at, listed-under, sum-more}
+use Rattle.numbers.proofs.Ranges.{listed-same, listed-more, listed-length, listed-at, listed-under, sum-more}
+use Rattle.numbers.proofs.Entries.{entry-place}
 use Rattle.numbers.proofs.Sums.{naturals}
-use Rattle.numbers.proofs.Tests.{and-left, below-or-not, same-or-not}
-use Rattle.rules.specs.Book.{good, heldSections, filedNotices, noticeOf, noticeAt, blankNotice, noticeGood}
-use Rattle.rules.specs.Expiry.{lowerSectionCode}
-use Rattle.rules.specs.Expiry.Passes.{Pair, offers, pairOf, stageOne}
-use Rattle.method_passes.specs.Pairs.{pairsIn}
+use Rattle.numbers.proofs.Tests.{and-left, same-or-not}
+use Rattle.rules.specs.Book.{elevators, good, heldSections, filedNotices, noticeOf, noticeAt, blankNotice, noticeGood}
+use Rattle.rules.specs.Expiry.Passes.{Pair, offers, pairOf, fullestBuyer, fullestElevator, stageOne}
+use Rattle.method_passes.specs.Pairs.{pairAt, pairsIn}
 use Rattle.book_laws.proofs.Good.{facts}
 use Rattle.book_laws.proofs.Held.{filed-length, has-notice}
 
@@ -91,7 +91,7 @@ module _ (buyers elevators lots : List ℕ) (count : ℕ) where
   lotsIn = map (λ (q : Pair). q .lots) (pairsIn buyers elevators lots count)
 
   lots-listed : lotsIn ≡ listed count (entry lots)
-  lots-listed = map-map (λ (q : Pair). q .lots) (λ (k : ℕ). record { buyer = entry buyers k; elevator = entry elevators k; lots = entry lots k }) (counted 0 count)
+  lots-listed = map-map (λ (q : Pair). q .lots) (pairAt buyers elevators lots) (counted 0 count)
 
   pub lots-length : length lotsIn ≡ count
   lots-length = ap length lots-listed ∙ listed-length count (entry lots)
@@ -99,25 +99,8 @@ module _ (buyers elevators lots : List ℕ) (count : ℕ) where
   pub lots-at : (k : ℕ) → k < count → entry lotsIn k ≡ entry lots k
   lots-at k h = ap (λ (xs : List ℕ). entry xs k) lots-listed ∙ listed-at count (entry lots) k 0 h
 
-  pub pair-at : (k : ℕ) → k < count → pairOf (pairsIn buyers elevators lots count) k ≡ record { buyer = entry buyers k; elevator = entry elevators k; lots = entry lots k }
-  pair-at k h = listed-at count (λ (k : ℕ). record { buyer = entry buyers k; elevator = entry elevators k; lots = entry lots k }) k _ h
-
--- a list by number: one entry more, and entries that are the same
-module _ {A : Type 0} (f : ℕ → A) where
-  pub listed-more : (n : ℕ) → listed (suc n) f ≡ listed n f ++ (f n ∷ [])
-  listed-more n = ap (map f) (counted-more 0 n) ∙ map-append f (counted 0 n) ((0 + n) ∷ []) ∙ ap (λ (j : ℕ). listed n f ++ (f j ∷ [])) (zero-add n)
-
-pub listed-same : {A : Type 0} (f g : ℕ → A) (n : ℕ) → ((i : ℕ) → i < n → f i ≡ g i) → listed n f ≡ listed n g
-unfolding counted
-listed-same f g zero same = refl
-listed-same {A = A} f g (suc n) same =
-    listed-more f n
-    ∙ ap₂ (λ (xs : List A) (x : A). xs ++ (x ∷ [])) (listed-same f g n (λ i h. same i (omega arith))) (same n (omega arith))
-    ∙ sym (listed-more g n)
-
--- an entry that is not 0 has a place
-pub entry-place : (xs : List ℕ) (i : ℕ) → (entry xs i ≡ 0 → ⊥) → i < length xs
-entry-place xs i some = ⊎-elim (λ (h : i < length xs). h) (λ (h : length xs ≤ i). absurd (some (getD-past xs i 0 h))) (below-or-not i (length xs))
+  pub pair-at : (k : ℕ) → k < count → pairOf (pairsIn buyers elevators lots count) k ≡ pairAt buyers elevators lots k
+  pair-at k h = listed-at count (pairAt buyers elevators lots) k _ h
 
 ap₃ : {A B C D : Type 0} (f : A → B → C → D) {a a′ : A} {b b′ : B} {c c′ : C} → a ≡ a′ → b ≡ b′ → c ≡ c′ → f a b c ≡ f a′ b′ c′
 ap₃ f e e′ e″ = rw (e, e′, e″)
@@ -127,52 +110,48 @@ module _ (buyers elevators lots : List ℕ) (count : ℕ) (h : count < length bu
   pub pairs-more : pairsIn (set buyers count buyer) (set elevators count elevator) (set lots count amount) (count + 1) ≡ pairsIn buyers elevators lots count ++ (record { buyer = buyer; elevator = elevator; lots = amount } ∷ [])
   pairs-more =
       let make : ℕ → ℕ → ℕ → Pair = λ (x y z : ℕ). record { buyer = x; elevator = y; lots = z } in
-      let new : ℕ → Pair = λ (k : ℕ). make (entry (set buyers count buyer) k) (entry (set elevators count elevator) k) (entry (set lots count amount) k) in
-      let old : ℕ → Pair = λ (k : ℕ). make (entry buyers k) (entry elevators k) (entry lots k) in
+      let new : ℕ → Pair = pairAt (set buyers count buyer) (set elevators count elevator) (set lots count amount) in
       ap (λ (n : ℕ). listed n new) (add-one count)
-      ∙ listed-more new count
+      ∙ listed-more count new
       ∙ ap₂ (λ (ps : List Pair) (p : Pair). ps ++ (p ∷ []))
-      (listed-same new old count (λ i l.
+      (listed-same count new (pairAt buyers elevators lots) (λ i l.
       let other : i ≡ count → ⊥ = λ e. absurd (omega (arith, l, e)) in
       ap₃ make (getD-set-other buyers count i buyer 0 other) (getD-set-other elevators count i elevator 0 other) (getD-set-other lots count i amount 0 other)))
       (ap₃ make (getD-set-same buyers count buyer 0 h) (getD-set-same elevators count elevator 0 h′) (getD-set-same lots count amount 0 h″))
 
+-- a branch of a definition as a choice
+pub as-cond : {A : Type 0} (t : Bool) (xs : List A) → elim t [ true ↦ [] | false ↦ xs ] ≡ cond t [] xs
+as-cond true xs = refl
+as-cond false xs = refl
+
 -- stage one, a turn
 module _ (ss : List Section) (bs es : List ℕ) where
-  abbrev most : ℕ
-  most = largest (lowerSectionCode ss) bs
+  abbrev pairLots : ℕ
+  pairLots = min (entry bs (fullestBuyer ss bs)) (entry es (fullestElevator es))
 
-  abbrev most′ : ℕ
-  most′ = largest (λ (i j : ℕ). ltb i j) es
+  abbrev nextPair : Pair
+  nextPair = record { buyer = fullestBuyer ss bs; elevator = fullestElevator es; lots = pairLots }
 
-  abbrev both : ℕ
-  both = min (entry bs most) (entry es most′)
+  abbrev restPairs : ℕ → List Pair
+  restPairs n = stageOne ss n (set bs (nextPair .buyer) (entry bs (nextPair .buyer) - pairLots)) (set es (nextPair .elevator) (entry es (nextPair .elevator) - pairLots))
 
-  turn : (n : ℕ) (t : Bool) → eqb both 0 ≡ t → stageOne ss (suc n) bs es ≡ cond t [] (record { buyer = most; elevator = most′; lots = both } ∷ stageOne ss n (set bs most (entry bs most - both)) (set es most′ (entry es most′ - both)))
+  turn : (n : ℕ) (t : Bool) → eqb pairLots 0 ≡ t → stageOne ss (suc n) bs es ≡ cond t [] (nextPair ∷ restPairs n)
   unfolding stageOne
-  turn n t e = go (eqb both 0) ∙ ap (λ (u : Bool). cond u [] (record { buyer = most; elevator = most′; lots = both } ∷ stageOne ss n (set bs most (entry bs most - both)) (set es most′ (entry es most′ - both)))) e
-    where
-      go : (u : Bool) → elim u [ true ↦ [] | false ↦ record { buyer = most; elevator = most′; lots = both } ∷ stageOne ss n (set bs most (entry bs most - both)) (set es most′ (entry es most′ - both)) ] ≡ cond u [] (record { buyer = most; elevator = most′; lots = both } ∷ stageOne ss n (set bs most (entry bs most - both)) (set es most′ (entry es most′ - both)))
-      go true = refl
-      go false = refl
+  turn n t e = as-cond (eqb pairLots 0) (nextPair ∷ restPairs n) ∙ ap (λ (u : Bool). cond u [] (nextPair ∷ restPairs n)) e
 
-  module _ (n b e has stands amount : ℕ) (eb : b ≡ most) (ee : e ≡ most′) (eh : has ≡ entry bs b) (et : stands ≡ entry es e) (ea : amount ≡ min has stands) where
-    same-amount : amount ≡ both
+  module _ (n : ℕ) {b e has stands amount : ℕ} (eb : b ≡ fullestBuyer ss bs) (ee : e ≡ fullestElevator es) (eh : has ≡ entry bs b) (et : stands ≡ entry es e) (ea : amount ≡ min has stands) where
+    same-amount : amount ≡ pairLots
     same-amount = rw (ea, eh, et, eb, ee)
 
     pub turn-pair : (amount ≡ 0 → ⊥) → stageOne ss (suc n) bs es ≡ record { buyer = b; elevator = e; lots = amount } ∷ stageOne ss n (set bs b (has - amount)) (set es e (stands - amount))
-    turn-pair some = rw (same-amount, eh, et, eb, ee) (turn n false (ne-eqb both 0 (λ z. some (same-amount ∙ z))))
+    turn-pair some = rw (same-amount, eh, et, eb, ee) (turn n false (ne-eqb pairLots 0 (λ z. some (same-amount ∙ z))))
 
     pub turn-none : amount ≡ 0 → stageOne ss (suc n) bs es ≡ []
-    turn-none none = turn n true (eq-eqb both 0 (sym same-amount ∙ none))
+    turn-none none = turn n true (eq-eqb pairLots 0 (sym same-amount ∙ none))
 
 pub no-turn : (ss : List Section) (bs es : List ℕ) → stageOne ss 0 bs es ≡ []
 unfolding stageOne
 no-turn ss bs es = refl
-
-pub none-yet : (b : Book) (turns : ℕ) (bs es takers stores amounts : List ℕ) → pairsIn takers stores amounts 0 ++ stageOne (heldSections b) (turns - 0) bs es ≡ stageOne (heldSections b) turns bs es
-unfolding counted
-none-yet b turns bs es takers stores amounts = ap (λ (n : ℕ). stageOne (heldSections b) n bs es) (omega arith)
 
 -- an entry below n is written after those that are
 pub set-below : (xs : List ℕ) (n i x : ℕ) → i < length xs → x < n → ((k : ℕ) → k < i → entry xs k < n) → (k : ℕ) → k < i + 1 → entry (set xs i x) k < n
@@ -183,63 +162,85 @@ set-below xs n i x h l before k below =
     (same-or-not k i)
 
 -- stage one after `count` pairs: those written, and what it forms of what is left
-module _ (b : Book) (turns : ℕ) (bs₀ es₀ : List ℕ) where
-  abbrev pub Formed : List ℕ → List ℕ → List ℕ → List ℕ → List ℕ → ℕ → Type 0
-  Formed bs es takers stores amounts count =
-      (count ≤ turns)
-      × (length bs ≡ b .held)
-      × (length es ≡ 32)
-      × (length takers ≡ 160)
-      × (length stores ≡ 160)
-      × (length amounts ≡ 160)
-      × ((k : ℕ) → k < count → entry takers k < b .held)
-      × ((k : ℕ) → k < count → entry stores k < 32)
-      × (pairsIn takers stores amounts count ++ stageOne (heldSections b) (turns - count) bs es ≡ stageOne (heldSections b) turns bs₀ es₀)
+pub record Formed (b : Book) (turns : ℕ) (bs₀ es₀ bs es takers stores amounts : List ℕ) (count : ℕ) : Type 0 where
+  pub book : good b ≡ true
+  pub turns-are : turns ≡ b .held + elevators
+  pub within : count ≤ turns
+  pub buyers-long : length bs ≡ b .held
+  pub elevators-long : length es ≡ elevators
+  pub takers-long : length takers ≡ 160
+  pub stores-long : length stores ≡ 160
+  pub amounts-long : length amounts ≡ 160
+  pub takers-held : (k : ℕ) → k < count → entry takers k < b .held
+  pub stores-stand : (k : ℕ) → k < count → entry stores k < elevators
+  pub all : pairsIn takers stores amounts count ++ stageOne (heldSections b) (turns - count) bs es ≡ stageOne (heldSections b) turns bs₀ es₀
 
-  module _ (bs es takers stores amounts : List ℕ) (count : ℕ) (f : Formed bs es takers stores amounts count) where
-    -- all turns are taken
-    pub formed-end : turns ≤ count → pairsIn takers stores amounts count ≡ stageOne (heldSections b) turns bs₀ es₀
-    formed-end all =
-        sym (append-nil (pairsIn takers stores amounts count))
-        ∙ ap (λ (ps : List Pair). pairsIn takers stores amounts count ++ ps) (sym (no-turn (heldSections b) bs es) ∙ ap (λ (n : ℕ). stageOne (heldSections b) n bs es) (omega (arith, all)))
-        ∙ f .8
+-- before the first turn
+pub none-formed : (b : Book) (turns : ℕ) (bs es takers stores amounts : List ℕ) → good b ≡ true → turns ≡ b .held + elevators → length bs ≡ b .held → length es ≡ elevators → length takers ≡ 160 → length stores ≡ 160 → length amounts ≡ 160
+    → Formed b turns bs es bs es takers stores amounts 0
+unfolding counted
+none-formed b turns bs es takers stores amounts h e hb he ht hs ha =
+    record {
+      book = h;
+      turns-are = e;
+      within = omega arith;
+      buyers-long = hb;
+      elevators-long = he;
+      takers-long = ht;
+      stores-long = hs;
+      amounts-long = ha;
+      takers-held = λ k l. absurd (not-suc-le-zero l);
+      stores-stand = λ k l. absurd (not-suc-le-zero l);
+      all = ap (λ (n : ℕ). stageOne (heldSections b) n bs es) (omega arith);
+    }
 
-    module _ (buyer elevator has stands amount : ℕ) (below : count < turns) (fit : turns ≤ 160)
-        (eb : buyer ≡ largest (lowerSectionCode (heldSections b)) bs)
-        (ee : elevator ≡ largest (λ (i j : ℕ). ltb i j) es)
-        (eh : has ≡ entry bs buyer) (et : stands ≡ entry es elevator) (ea : amount ≡ min has stands) where
-      rest : suc (turns - (count + 1)) ≡ turns - count
-      rest = omega (arith, below)
+module _ {b : Book} {turns : ℕ} {bs₀ es₀ bs es takers stores amounts : List ℕ} {count : ℕ} (f : Formed b turns bs₀ es₀ bs es takers stores amounts count) where
+  pub few : turns ≤ 160
+  few = omega (arith, f .turns-are, facts b (f .book) .held)
 
-      -- nothing is left
-      pub formed-stop : amount ≡ 0 → pairsIn takers stores amounts count ≡ stageOne (heldSections b) turns bs₀ es₀
-      formed-stop none =
-          sym (append-nil (pairsIn takers stores amounts count))
-          ∙ ap (λ (ps : List Pair). pairsIn takers stores amounts count ++ ps)
-          (sym (turn-none (heldSections b) bs es (turns - (count + 1)) buyer elevator has stands amount eb ee eh et ea none) ∙ ap (λ (n : ℕ). stageOne (heldSections b) n bs es) rest)
-          ∙ f .8
+  -- nothing is left to form
+  over : stageOne (heldSections b) (turns - count) bs es ≡ [] → pairsIn takers stores amounts count ≡ stageOne (heldSections b) turns bs₀ es₀
+  over none = sym (append-nil (pairsIn takers stores amounts count)) ∙ ap (λ (ps : List Pair). pairsIn takers stores amounts count ++ ps) (sym none) ∙ f .all
 
-      pub buyer-place : (amount ≡ 0 → ⊥) → buyer < length bs
-      buyer-place some = entry-place bs buyer (λ z. some (omega (arith, z, eh, ea)))
+  -- all turns are taken
+  pub formed-end : turns ≤ count → pairsIn takers stores amounts count ≡ stageOne (heldSections b) turns bs₀ es₀
+  formed-end done = over (ap (λ (n : ℕ). stageOne (heldSections b) n bs es) (omega (arith, done)) ∙ no-turn (heldSections b) bs es)
 
-      pub elevator-place : (amount ≡ 0 → ⊥) → elevator < length es
-      elevator-place some = entry-place es elevator (λ z. some (omega (arith, z, et, ea)))
+  module _ {buyer elevator has stands amount : ℕ} (below : count < turns) (eb : buyer ≡ fullestBuyer (heldSections b) bs) (ee : elevator ≡ fullestElevator es)
+      (eh : has ≡ entry bs buyer) (et : stands ≡ entry es elevator) (ea : amount ≡ min has stands) where
+    rest : turns - count ≡ suc (turns - (count + 1))
+    rest = omega (arith, below)
+
+    -- nothing is left
+    pub formed-stop : amount ≡ 0 → pairsIn takers stores amounts count ≡ stageOne (heldSections b) turns bs₀ es₀
+    formed-stop none = over (ap (λ (n : ℕ). stageOne (heldSections b) n bs es) rest ∙ turn-none (heldSections b) bs es (turns - (count + 1)) eb ee eh et ea none)
+
+    module _ (some : amount ≡ 0 → ⊥) where
+      pub buyer-place : buyer < length bs
+      buyer-place = entry-place bs buyer (omega (arith, some, eh, ea))
+
+      pub elevator-place : elevator < length es
+      elevator-place = entry-place es elevator (omega (arith, some, et, ea))
 
       -- one pair more
-      pub formed-next : (amount ≡ 0 → ⊥) → Formed (set bs buyer (has - amount)) (set es elevator (stands - amount)) (set takers count buyer) (set stores count elevator) (set amounts count amount) (count + 1)
-      formed-next some = (
-        omega (arith, below),
-        length-set bs buyer (has - amount) ∙ f .1,
-        length-set es elevator (stands - amount) ∙ f .2,
-        length-set takers count buyer ∙ f .3,
-        length-set stores count elevator ∙ f .4,
-        length-set amounts count amount ∙ f .5,
-        set-below takers (b .held) count buyer (omega (arith, below, fit, f .3)) (omega (arith, buyer-place some, f .1)) (f .6),
-        set-below stores 32 count elevator (omega (arith, below, fit, f .4)) (omega (arith, elevator-place some, f .2)) (f .7),
-        ap (λ (ps : List Pair). ps ++ stageOne (heldSections b) (turns - (count + 1)) (set bs buyer (has - amount)) (set es elevator (stands - amount)))
-            (pairs-more takers stores amounts count (omega (arith, below, fit, f .3)) (omega (arith, below, fit, f .4)) (omega (arith, below, fit, f .5)) buyer elevator amount)
-            ∙ append-assoc (pairsIn takers stores amounts count) _ _
-            ∙ ap (λ (ps : List Pair). pairsIn takers stores amounts count ++ ps)
-            (sym (turn-pair (heldSections b) bs es (turns - (count + 1)) buyer elevator has stands amount eb ee eh et ea some) ∙ ap (λ (n : ℕ). stageOne (heldSections b) n bs es) rest)
-            ∙ f .8,
-      )
+      pub formed-next : Formed b turns bs₀ es₀ (set bs buyer (has - amount)) (set es elevator (stands - amount)) (set takers count buyer) (set stores count elevator) (set amounts count amount) (count + 1)
+      formed-next =
+          record {
+            book = f .book;
+            turns-are = f .turns-are;
+            within = omega (arith, below);
+            buyers-long = length-set bs buyer (has - amount) ∙ f .buyers-long;
+            elevators-long = length-set es elevator (stands - amount) ∙ f .elevators-long;
+            takers-long = length-set takers count buyer ∙ f .takers-long;
+            stores-long = length-set stores count elevator ∙ f .stores-long;
+            amounts-long = length-set amounts count amount ∙ f .amounts-long;
+            takers-held = set-below takers (b .held) count buyer (omega (arith, below, few, f .takers-long)) (omega (arith, buyer-place, f .buyers-long)) (f .takers-held);
+            stores-stand = set-below stores elevators count elevator (omega (arith, below, few, f .stores-long)) (omega (arith, elevator-place, f .elevators-long)) (f .stores-stand);
+            all =
+                ap (λ (ps : List Pair). ps ++ stageOne (heldSections b) (turns - (count + 1)) (set bs buyer (has - amount)) (set es elevator (stands - amount)))
+                (pairs-more takers stores amounts count (omega (arith, below, few, f .takers-long)) (omega (arith, below, few, f .stores-long)) (omega (arith, below, few, f .amounts-long)) buyer elevator amount)
+                ∙ append-assoc (pairsIn takers stores amounts count) _ _
+                ∙ ap (λ (ps : List Pair). pairsIn takers stores amounts count ++ ps)
+                (sym (turn-pair (heldSections b) bs es (turns - (count + 1)) eb ee eh et ea some) ∙ ap (λ (n : ℕ). stageOne (heldSections b) n bs es) (sym rest))
+                ∙ f .all;
+          }

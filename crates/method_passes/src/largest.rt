@@ -1,9 +1,9 @@
-// The place of most lots, among equal ones by the paper's keys.
-ghost use Rattle.rules.specs.Words.{_≡_, true, cond, _&&_, _||_, map, ℕ, _≤_, _<_, ltb, eqb, length, entry, largest};
+// The place of most lots; ties by section code and elevator (01, Expiry, 6.4).
+ghost use Rattle.rules.specs.Words.{_≡_, true, cond, [], _&&_, _||_, ℕ, _≤_, _<_, ltb, eqb, length, entry};
 ghost use Rattle.rules.specs.Book.{good, heldSections, filedNotices, noticeOf};
 ghost use Rattle.rules.specs.Expiry;
 ghost use Rattle.rules.specs.Expiry.Passes;
-ghost use Rattle.method_passes.specs.Pairs.{pairsIn};
+ghost use Rattle.method_passes.specs.Pairs.{pairAt, pairsIn};
 use crate::offers;
 use method_order::sections;
 use rules::book::Book;
@@ -21,7 +21,7 @@ fn leader(i: usize, own: u64, best: usize, most: u64, earlier: bool) -> usize
 // The buyer section with most lots; ties: lower section code.
 pub fn buyer(b: Book, lots: &[u64]) -> usize
     requires { ⌜ (good b ≡ true) × (length (now lots) ≡ b .held) ⌝ }
-    ensures { λ r. ⌜ r ≡ largest (Expiry.lowerSectionCode (heldSections b)) (now (lots .entry)) ⌝ }
+    ensures { λ r. ⌜ r ≡ Passes.fullestBuyer (heldSections b) (now (lots .entry)) ⌝ }
 {
     let all = lots.len();
     let mut best = 0;
@@ -38,7 +38,7 @@ pub fn buyer(b: Book, lots: &[u64]) -> usize
 
 // The elevator with most lots; ties: lower elevator.
 pub fn elevator(lots: &[u64]) -> usize
-    ensures { λ r. ⌜ r ≡ largest (λ (i j : ℕ). ltb i j) (now (lots .entry)) ⌝ }
+    ensures { λ r. ⌜ r ≡ Passes.fullestElevator (now (lots .entry)) ⌝ }
 {
     let all = lots.len();
     let mut best = 0;
@@ -68,7 +68,7 @@ fn earlier_notice(b: Book, i: usize, j: usize) -> bool
 // The notice with most lots at an elevator; ties: lower seller section code.
 pub fn notice(b: Book, drawn: &[u64], elevator: usize) -> usize
     requires { ⌜ (good b ≡ true) × (length (now drawn) ≡ b .filed) ⌝ }
-    ensures { λ r. ⌜ r ≡ largest (λ (i j : ℕ). Expiry.lowerSectionCode (heldSections b) (noticeOf (filedNotices b) i .section) (noticeOf (filedNotices b) j .section)) (Passes.offers (filedNotices b) (now (drawn .entry)) elevator) ⌝ }
+    ensures { λ r. ⌜ r ≡ Passes.fullestNotice (heldSections b) (filedNotices b) (now (drawn .entry)) elevator ⌝ }
 {
     let all = b.filed;
     let mut best = 0;
@@ -87,7 +87,7 @@ pub fn notice(b: Book, drawn: &[u64], elevator: usize) -> usize
 fn earlier_pair(b: Book, buyers: &[usize], elevators: &[usize], i: usize, j: usize) -> bool
     requires { ⌜ (good b ≡ true) × (i < length (now buyers)) × (j < length (now buyers)) × (i < length (now elevators)) × (j < length (now elevators)) ⌝ }
     requires { ⌜ (entry (now buyers) i < b .held) × (entry (now buyers) j < b .held) ⌝ }
-    ensures { λ r. ⌜ r ≡ Passes.earlierPair (heldSections b) (record { buyer = entry (now (buyers .entry)) i; elevator = entry (now (elevators .entry)) i; lots = 0 }) (record { buyer = entry (now (buyers .entry)) j; elevator = entry (now (elevators .entry)) j; lots = 0 }) ⌝ }
+    ensures { λ r. ⌜ r ≡ Passes.earlierPair (heldSections b) (pairAt (now (buyers .entry)) (now (elevators .entry)) [] i) (pairAt (now (buyers .entry)) (now (elevators .entry)) [] j) ⌝ }
 {
     let mine = buyers[i];
     let its = buyers[j];
@@ -101,7 +101,7 @@ fn earlier_pair(b: Book, buyers: &[usize], elevators: &[usize], i: usize, j: usi
 pub fn pair(b: Book, buyers: &[usize], elevators: &[usize], lots: &[u64], count: usize) -> usize
     requires { ⌜ (good b ≡ true) × (count ≤ 160) × (length (now buyers) ≡ 160) × (length (now elevators) ≡ 160) × (length (now lots) ≡ 160) ⌝ }
     requires { ⌜ ((k : ℕ) → k < count → entry (now buyers) k < b .held) ⌝ }
-    ensures { λ r. ⌜ r ≡ largest (λ (i j : ℕ). Passes.earlierPair (heldSections b) (Passes.pairOf (pairsIn (now (buyers .entry)) (now (elevators .entry)) (now (lots .entry)) count) i) (Passes.pairOf (pairsIn (now (buyers .entry)) (now (elevators .entry)) (now (lots .entry)) count) j)) (map (λ (q : Passes.Pair). q .lots) (pairsIn (now (buyers .entry)) (now (elevators .entry)) (now (lots .entry)) count)) ⌝ }
+    ensures { λ r. ⌜ r ≡ Passes.fullestPair (heldSections b) (pairsIn (now (buyers .entry)) (now (elevators .entry)) (now (lots .entry)) count) ⌝ }
 {
     let mut best = 0;
     let mut i = 0;

@@ -1,4 +1,4 @@
-// What is drawn of the notices at an elevator.
+// What is drawn of the notices at an elevator (01, Expiry, 6.2).
 ghost use Rattle.rules.specs.Words.{_≡_, true, ℕ, _≤_, _<_, length, entry, total};
 ghost use Rattle.rules.specs.Book.{good, filedNotices, noticeOf};
 ghost use Rattle.rules.specs.Expiry.Passes;

@@ -1,6 +1,6 @@
-// Stage one: pairs of buyers and elevators.
+// Stage one: pairs of buyers and elevators (01, Expiry, 6.2).
 ghost use Rattle.rules.specs.Words.{_≡_, true, ℕ, _+_, _≤_, _<_, length, entry};
-ghost use Rattle.rules.specs.Book.{good, heldSections, filedNotices};
+ghost use Rattle.rules.specs.Book.{good, heldSections};
 ghost use Rattle.rules.specs.Expiry.Passes;
 ghost use Rattle.method_passes.specs.Pairs.{pairsIn};
 use crate::largest;

@@ -1,8 +1,8 @@
-// Stage two: lines of pairs and notices.
-ghost use Rattle.rules.specs.Words.{_≡_, true, cond, _||_, map, ℕ, _+_, _≤_, _<_, eqb, length, entry, put};
-ghost use Rattle.rules.specs.Book.{good, heldSections, filedNotices, noticeOf};
+// Stage two: lines of pairs and notices (01, Expiry, 6.3).
+ghost use Rattle.rules.specs.Words.{_≡_, true, cond, _||_, ℕ, _+_, _≤_, _<_, eqb, length, entry, put};
+ghost use Rattle.rules.specs.Book.{good};
 ghost use Rattle.rules.specs.Expiry.Passes;
-ghost use Rattle.method_passes.specs.Pairs.{pairsIn, linesIn};
+ghost use Rattle.method_passes.specs.Pairs.{linesIn};
 use crate::largest;
 use crate::offers;
 use rules::book::Book;
@@ -38,10 +38,10 @@ pub fn form_lines(
     requires { ⌜ ((k : ℕ) → k < count → entry (now takers) k < b .held) × ((k : ℕ) → k < count → entry (now stores) k < 32) × ((k : ℕ) → entry (now drawn) k ≤ 1_000_000) ⌝ }
     requires { ⌜ (let most = from + length (linesIn b count (now takers) (now stores) (now amounts) (now drawn)) in (most ≤ length (now buyers)) × (most ≤ length (now elevators)) × (most ≤ length (now sellers)) × (most ≤ length (now lots))) ⌝ }
     ensures { λ r. ⌜ r ≡ length (linesIn b count (now (takers .entry)) (now (stores .entry)) (now (amounts .entry)) (now (drawn .entry))) ⌝ }
-    ensures { λ _. ⌜ now (buyers .exit) ≡ put (now (buyers .entry)) from (map (λ (l : Passes.Line). l .buyer) (linesIn b count (now (takers .entry)) (now (stores .entry)) (now (amounts .entry)) (now (drawn .entry)))) ⌝ }
-    ensures { λ _. ⌜ now (elevators .exit) ≡ put (now (elevators .entry)) from (map (λ (l : Passes.Line). l .elevator) (linesIn b count (now (takers .entry)) (now (stores .entry)) (now (amounts .entry)) (now (drawn .entry)))) ⌝ }
-    ensures { λ _. ⌜ now (sellers .exit) ≡ put (now (sellers .entry)) from (map (λ (l : Passes.Line). l .seller) (linesIn b count (now (takers .entry)) (now (stores .entry)) (now (amounts .entry)) (now (drawn .entry)))) ⌝ }
-    ensures { λ _. ⌜ now (lots .exit) ≡ put (now (lots .entry)) from (map (λ (l : Passes.Line). l .lots) (linesIn b count (now (takers .entry)) (now (stores .entry)) (now (amounts .entry)) (now (drawn .entry)))) ⌝ }
+    ensures { λ _. ⌜ now (buyers .exit) ≡ put (now (buyers .entry)) from (Passes.buyersOf (linesIn b count (now (takers .entry)) (now (stores .entry)) (now (amounts .entry)) (now (drawn .entry)))) ⌝ }
+    ensures { λ _. ⌜ now (elevators .exit) ≡ put (now (elevators .entry)) from (Passes.elevatorsOf (linesIn b count (now (takers .entry)) (now (stores .entry)) (now (amounts .entry)) (now (drawn .entry)))) ⌝ }
+    ensures { λ _. ⌜ now (sellers .exit) ≡ put (now (sellers .entry)) from (Passes.sellersOf (linesIn b count (now (takers .entry)) (now (stores .entry)) (now (amounts .entry)) (now (drawn .entry)))) ⌝ }
+    ensures { λ _. ⌜ now (lots .exit) ≡ put (now (lots .entry)) from (Passes.lotsOf (linesIn b count (now (takers .entry)) (now (stores .entry)) (now (amounts .entry)) (now (drawn .entry)))) ⌝ }
 {
     let turns = most_turns(count, b.filed);
     let mut formed = 0;

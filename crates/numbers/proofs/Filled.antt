@@ -1,15 +1,12 @@
 -- A list that is filled by number: entry i becomes f i, one turn after the other.
-use Rattle.numbers.proofs.Words.{ℕ, suc, _+_, _≤_, _<_, zero-add, add-one, arith, _≡_, refl, ap, ap₂, _∙_, List, [], _∷_, _++_, map, map-append, append-assoc, append-nil, length, getD, set, drop, drop-of-length-le, length-append, length-drop, drop-cons, set-at, getD-at, counted, listed}
-use Rattle.numbers.proofs.Ranges.{counted-more, listed-length}
+use Rattle.numbers.proofs.Words.{ℕ, suc, _+_, _≤_, _<_, add-one, arith, _≡_, refl, ap, ap₂, _∙_, List, _++_, append-assoc, append-nil, length, getD, set, drop, drop-of-length-le, length-append, length-drop, drop-cons, set-at, getD-at, counted, listed}
+use Rattle.numbers.proofs.Ranges.{listed-more, listed-length}
 
 -- after i turns
 abbrev pub partly : {A : Type 0} → (ℕ → A) → List A → ℕ → List A
 partly f was i = listed i f ++ drop i was
 
 module _ {A : Type 0} (f : ℕ → A) (was : List A) where
-  one-more : (i : ℕ) → listed (suc i) f ≡ listed i f ++ (f i ∷ [])
-  one-more i = ap (map f) (counted-more 0 i) ∙ map-append f (counted 0 i) ((0 + i) ∷ []) ∙ ap (λ (j : ℕ). listed i f ++ (f j ∷ [])) (zero-add i)
-
   pub partly-start : was ≡ partly f was 0
   unfolding counted
   partly-start = refl
@@ -19,7 +16,7 @@ module _ {A : Type 0} (f : ℕ → A) (was : List A) where
   partly-next i h =
       ap (λ (rest : List A). set (listed i f ++ rest) i (f i)) (drop-cons was i (f i) h)
       ∙ set-at (listed i f) (getD was i (f i)) (drop (suc i) was) (f i) i (listed-length i f)
-      ∙ rw (add-one, one-more i, append-assoc)
+      ∙ rw (add-one, listed-more i f, append-assoc)
 
   -- what is not partly yet is as it was
   pub partly-here : (i : ℕ) (d : A) → i < length was → getD (partly f was i) i d ≡ getD was i d

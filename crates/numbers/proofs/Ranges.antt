@@ -1,5 +1,5 @@
 -- Lists by number: what `listed` holds, and sums over the numbers below n, stated once over what is summed.
-use Rattle.numbers.proofs.Words.{ℕ, zero, suc, _+_, _-_, _≤_, _<_, add-zero, zero-add, not-suc-le-zero, le-of-suc-le-suc, arith, _≡_, refl, sym, ap, ap₂, _∙_, Bool, true, false, cond, List, [], _∷_, _++_, map, map-map, flatMap, ⊎-elim, eqb, length, getD, set, length-map, List·getD-eq-default, getD-set-same, getD-set-other, eq-eqb, ne-eqb, counted, listed, entry, less, pos, _+ℤ_, _-ℤ_, gathered, total, totalℤ}
+use Rattle.numbers.proofs.Words.{ℕ, zero, suc, _+_, _-_, _≤_, _<_, add-zero, zero-add, not-suc-le-zero, le-of-suc-le-suc, arith, _≡_, refl, sym, ap, ap₂, _∙_, Bool, true, false, cond, List, [], _∷_, _++_, map, map-map, flatMap, ⊎-elim, eqb, length, getD, set, length-map, List·getD-eq-default, getD-set-same, getD-set-other, eq-eqb, ne-eqb, counted, listed, entry, less, pos, _+ℤ_, _-ℤ_, gathered, total, totalℤ, map-append}
 use Rattle.numbers.proofs.Sums.{Addition, naturals, total-last, total-map, total-kept, total-difference, measured}
 use Rattle.numbers.proofs.Changed.{read-at}
 use Rattle.numbers.proofs.Tests.{same-or-not, below-or-not}
@@ -57,6 +57,10 @@ pub listed-read : {A B : Type 0} (f : A → B) (xs : List A) (d : A) → listed 
 listed-read f xs d = sym (map-map f (λ (i : ℕ). getD xs i d) (counted 0 (length xs))) ∙ ap (map f) (listed-entries xs d)
 
 module _ {A : Type 0} (n : ℕ) (f : ℕ → A) where
+  -- one entry more
+  pub listed-more : listed (suc n) f ≡ listed n f ++ (f n ∷ [])
+  listed-more = ap (map f) (counted-more 0 n) ∙ map-append f (counted 0 n) ((0 + n) ∷ []) ∙ ap (λ (j : ℕ). listed n f ++ (f j ∷ [])) (zero-add n)
+
   pub listed-length : length (listed n f) ≡ n
   listed-length = length-map (counted 0 n) f ∙ counted-length 0 n
 

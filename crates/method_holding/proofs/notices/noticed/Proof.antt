@@ -1,9 +1,10 @@
 -- The loop's invariant: the sum is that of the first k notices, and at most 1,000,000 for each.
-use Rattle.numbers.proofs.Words.{ℕ, _+_, _-_, _*_, _≤_, _<_, arith, _≡_, sym, ap, ap₂, _∙_, take, needs}
+use Rattle.numbers.proofs.Words.{ℕ, _+_, _-_, _*_, _≤_, _<_, add-one, arith, _≡_, sym, ap, ap₂, _∙_, take, needs}
 use Rattle.rules.specs.Book.{noticeAt}
 use Rattle.rules.specs.Expiry.Failing.{noticed}
+use Rattle.method_laws.proofs.Drawing.{counts, noticed-none, noticed-next}
 use Rattle.book_laws.proofs.Good.{Good, facts}
-use Rattle.method_holding.proofs.Laws.{counts, counts-most, filed-good, noticed-none, noticed-next}
+use Rattle.method_holding.proofs.Laws.{counts-most, filed-good}
 use Rattle.method_holding.proofs.notices.noticed.Statement.{statement}
 use Rattle.method_holding.proofs.notices.noticed.Tie as tie
 
@@ -53,7 +54,7 @@ loop-again c =
     let b = at .before .args .t1 in (
       omega arith,
       ap₂ _+_ (at .loop .inv .1) (c .counting .ensures)
-          ∙ sym (noticed-next (b .notices) (at .before .args .section) (at .loop .k) (omega (arith, place (c .before .before), book (at .before) .filed, book (at .before) .notice-places))),
+          ∙ sym (ap (λ (n : ℕ). noticed (take n (b .notices)) (at .before .args .section)) (add-one (at .loop .k)) ∙ noticed-next (b .notices) (at .before .args .section) (at .loop .k) (omega (arith, place (c .before .before), book (at .before) .filed, book (at .before) .notice-places))),
       omega (arith, small c, at .loop .inv .2),
     )
 

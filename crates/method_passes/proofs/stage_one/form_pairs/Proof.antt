@@ -1,7 +1,7 @@
-use Rattle.numbers.proofs.Words.{needs, needs, _+_, _-_, _<_, not-suc-le-zero, arith, sym, _∙_, length, now}
 -- The loop's invariant: the pairs written so far, and those that stage one forms of what is left, are all the pairs.
+use Rattle.numbers.proofs.Words.{needs, _-_, _<_, arith, refl, sym, _∙_, length, now}
 use Rattle.book_laws.proofs.Good.{facts}
-use Rattle.method_passes.proofs.Laws.{Formed, none-yet, buyer-place, elevator-place, formed-next, formed-stop, formed-end}
+use Rattle.method_passes.proofs.Laws.{Formed, none-formed, few, buyer-place, elevator-place, formed-next, formed-stop, formed-end}
 use Rattle.method_passes.proofs.stage_one.form_pairs.Statement.{statement}
 use Rattle.method_passes.proofs.stage_one.form_pairs.Tie as tie
 
@@ -11,30 +11,31 @@ Inv-loop b buyers₀ elevators₀ takers₀ stores₀ amounts₀ turns count₀ 
 abbrev μ-loop : tie.MeasureT-loop
 μ-loop b buyers₀ elevators₀ takers₀ stores₀ amounts₀ turns count₀ buyers elevators takers stores amounts count = turns - count
 
-taker-place : (c : tie.Else1 Inv-loop μ-loop) → c .before .before .before .before .before .before .before .before .buyer .result < length (c .before .before .before .before .before .before .before .before .before .before .before .loop .buyers)
-taker-place c =
-    let at = c .before .before .before .before .before .before .before .before .before .before .before in
-    let start = at .before .before .before .before .before .before .before in
-    let a = start .args in
-    buyer-place (a .b) (a .b .held + 32) (now (a .buyers)) (now (a .elevators)) (at .loop .buyers) (at .loop .elevators) (at .loop .takers) (at .loop .stores) (at .loop .amounts) (at .loop .count) (at .loop .inv) (c .before .before .before .before .before .before .before .before .buyer .result) (c .before .before .before .before .before .before .elevator .result) (c .before .before .before .before .read .result) (c .before .before .read2 .result) (c .before .smaller .result) (c .before .before .before .before .before .before .before .before .before .before .loop-test .taken) (omega (arith, facts _ (start .pre .0 .0) .held)) (c .before .before .before .before .before .before .before .before .buyer .ensures) (c .before .before .before .before .before .before .elevator .ensures) (c .before .before .before .before .read .ensures) (c .before .before .read2 .ensures) (c .before .smaller .ensures) (c .if1 .left)
+-- the loop's start, before a turn and after its amount is known
+abbrev start : tie.At-loop Inv-loop μ-loop → tie.Start Inv-loop μ-loop
+start at = at .before .before .before .before .before .before .before
 
-store-place : (c : tie.Else1 Inv-loop μ-loop) → c .before .before .before .before .before .before .elevator .result < length (c .before .before .before .before .before .before .before .before .before .before .before .loop .elevators)
-store-place c =
-    let at = c .before .before .before .before .before .before .before .before .before .before .before in
-    let start = at .before .before .before .before .before .before .before in
-    let a = start .args in
-    elevator-place (a .b) (a .b .held + 32) (now (a .buyers)) (now (a .elevators)) (at .loop .buyers) (at .loop .elevators) (at .loop .takers) (at .loop .stores) (at .loop .amounts) (at .loop .count) (at .loop .inv) (c .before .before .before .before .before .before .before .before .buyer .result) (c .before .before .before .before .before .before .elevator .result) (c .before .before .before .before .read .result) (c .before .before .read2 .result) (c .before .smaller .result) (c .before .before .before .before .before .before .before .before .before .before .loop-test .taken) (omega (arith, facts _ (start .pre .0 .0) .held)) (c .before .before .before .before .before .before .before .before .buyer .ensures) (c .before .before .before .before .before .before .elevator .ensures) (c .before .before .before .before .read .ensures) (c .before .before .read2 .ensures) (c .before .smaller .ensures) (c .if1 .left)
+abbrev from : tie.After-smaller Inv-loop μ-loop → tie.At-loop Inv-loop μ-loop
+from c = c .before .before .before .before .before .before .before .before .before .before
+
+module _ (c : tie.Else1 Inv-loop μ-loop) where
+  taker-place : c .before .before .before .before .before .before .before .before .buyer .result < length (from (c .before) .loop .buyers)
+  taker-place = buyer-place (from (c .before) .loop .inv) (c .before .before .before .before .before .before .before .before .before .before .loop-test .taken) (c .before .before .before .before .before .before .before .before .buyer .ensures) (c .before .before .before .before .before .before .elevator .ensures) (c .before .before .before .before .read .ensures) (c .before .before .read2 .ensures) (c .before .smaller .ensures) (c .if1 .left)
+
+  store-place : c .before .before .before .before .before .before .elevator .result < length (from (c .before) .loop .elevators)
+  store-place = elevator-place (from (c .before) .loop .inv) (c .before .before .before .before .before .before .before .before .before .before .loop-test .taken) (c .before .before .before .before .before .before .before .before .buyer .ensures) (c .before .before .before .before .before .before .elevator .ensures) (c .before .before .before .before .read .ensures) (c .before .before .read2 .ensures) (c .before .smaller .ensures) (c .if1 .left)
 
 add-turns : tie.Need-add-turns Inv-loop μ-loop
 add-turns c = omega (arith, facts _ (c .before .before .before .before .before .before .pre .0 .0) .held)
 
 loop-holds : tie.Need-loop-holds Inv-loop μ-loop
 loop-holds c =
-    let start = c .before .before .before .before .before .before in
-    (omega arith, start .pre .0 .1, start .pre .0 .2, start .pre .1 .0, start .pre .1 .1, start .pre .1 .2, λ k h. absurd (not-suc-le-zero h), λ k h. absurd (not-suc-le-zero h), none-yet (start .args .b) (start .args .b .held + 32) (now (start .args .buyers)) (now (start .args .elevators)) (now (start .args .takers)) (now (start .args .stores)) (now (start .args .amounts)))
+    let first = c .before .before .before .before .before .before in
+    let a = first .args in
+    none-formed (a .b) _ (now (a .buyers)) (now (a .elevators)) (now (a .takers)) (now (a .stores)) (now (a .amounts)) (first .pre .0 .0) refl (first .pre .0 .1) (first .pre .0 .2) (first .pre .1 .0) (first .pre .1 .1) (first .pre .1 .2)
 
 buyer-requires : tie.Need-buyer-requires Inv-loop μ-loop
-buyer-requires c κs = (c .before .before .before .before .before .before .before .before .before .pre .0 .0, c .before .before .loop .inv .1)
+buyer-requires c κs = (c .before .before .loop .inv .book, c .before .before .loop .inv .buyers-long)
 
 elevator-requires : tie.Need-elevator-requires Inv-loop μ-loop
 elevator-requires c κs = search needs
@@ -52,25 +53,25 @@ mul-takers : tie.Need-mul-takers Inv-loop μ-loop
 mul-takers c = search needs
 
 slice-write-takers : tie.Need-slice-write-takers Inv-loop μ-loop
-slice-write-takers c = omega (arith, facts _ (c .before .before .before .before .before .before .before .before .before .before .before .before .before .before .before .before .before .before .pre .0 .0) .held)
+slice-write-takers c = omega (arith, few (from (c .before) .loop .inv))
 
 mul-stores : tie.Need-mul-stores Inv-loop μ-loop
 mul-stores c = search needs
 
 slice-write-stores : tie.Need-slice-write-stores Inv-loop μ-loop
-slice-write-stores c = omega (arith, facts _ (c .before .before .before .before .before .before .before .before .before .before .before .before .before .before .before .before .before .before .pre .0 .0) .held)
+slice-write-stores c = omega (arith, few (from (c .before) .loop .inv))
 
 mul-amounts : tie.Need-mul-amounts Inv-loop μ-loop
 mul-amounts c = search needs
 
 slice-write-amounts : tie.Need-slice-write-amounts Inv-loop μ-loop
-slice-write-amounts c = omega (arith, facts _ (c .before .before .before .before .before .before .before .before .before .before .before .before .before .before .before .before .before .before .pre .0 .0) .held)
+slice-write-amounts c = omega (arith, few (from (c .before) .loop .inv))
 
 sub-buyers : tie.Need-sub-buyers Inv-loop μ-loop
 sub-buyers c = omega (arith, c .before .smaller .ensures)
 
 mul-buyers : tie.Need-mul-buyers Inv-loop μ-loop
-mul-buyers c = omega (arith, taker-place c, facts _ (c .before .before .before .before .before .before .before .before .before .before .before .before .before .before .before .before .before .before .pre .0 .0) .held)
+mul-buyers c = omega (arith, taker-place c, few (from (c .before) .loop .inv))
 
 slice-write-buyers : tie.Need-slice-write-buyers Inv-loop μ-loop
 slice-write-buyers c = taker-place c
@@ -79,7 +80,7 @@ sub-elevators : tie.Need-sub-elevators Inv-loop μ-loop
 sub-elevators c = omega (arith, c .before .smaller .ensures)
 
 mul-elevators : tie.Need-mul-elevators Inv-loop μ-loop
-mul-elevators c = omega (arith, store-place c, facts _ (c .before .before .before .before .before .before .before .before .before .before .before .before .before .before .before .before .before .before .pre .0 .0) .held)
+mul-elevators c = omega (arith, store-place c)
 
 slice-write-elevators : tie.Need-slice-write-elevators Inv-loop μ-loop
 slice-write-elevators c = store-place c
@@ -91,55 +92,47 @@ loop-less : tie.Need-loop-less Inv-loop μ-loop
 loop-less c = search needs
 
 loop-again : tie.Need-loop-again Inv-loop μ-loop
-loop-again c =
-    let at = c .before .before .before .before .before .before .before .before .before .before .before in
-    let start = at .before .before .before .before .before .before .before in
-    let a = start .args in
-    formed-next (a .b) (a .b .held + 32) (now (a .buyers)) (now (a .elevators)) (at .loop .buyers) (at .loop .elevators) (at .loop .takers) (at .loop .stores) (at .loop .amounts) (at .loop .count) (at .loop .inv) (c .before .before .before .before .before .before .before .before .buyer .result) (c .before .before .before .before .before .before .elevator .result) (c .before .before .before .before .read .result) (c .before .before .read2 .result) (c .before .smaller .result) (c .before .before .before .before .before .before .before .before .before .before .loop-test .taken) (omega (arith, facts _ (start .pre .0 .0) .held)) (c .before .before .before .before .before .before .before .before .buyer .ensures) (c .before .before .before .before .before .before .elevator .ensures) (c .before .before .before .before .read .ensures) (c .before .before .read2 .ensures) (c .before .smaller .ensures) (c .if1 .left)
+loop-again c = formed-next (from (c .before) .loop .inv) (c .before .before .before .before .before .before .before .before .before .before .loop-test .taken) (c .before .before .before .before .before .before .before .before .buyer .ensures) (c .before .before .before .before .before .before .elevator .ensures) (c .before .before .before .before .read .ensures) (c .before .before .read2 .ensures) (c .before .smaller .ensures) (c .if1 .left)
 
 same-length : tie.Need-same-length Inv-loop μ-loop
-same-length c = c .before .loop .inv .1 ∙ sym (c .before .before .before .before .before .before .before .before .pre .0 .1)
+same-length c = c .before .loop .inv .buyers-long ∙ sym (start (c .before) .pre .0 .1)
 
 same-length-2 : tie.Need-same-length-2 Inv-loop μ-loop
-same-length-2 c = c .before .loop .inv .2 ∙ sym (c .before .before .before .before .before .before .before .before .pre .0 .2)
+same-length-2 c = c .before .loop .inv .elevators-long ∙ sym (start (c .before) .pre .0 .2)
 
 same-length-3 : tie.Need-same-length-3 Inv-loop μ-loop
-same-length-3 c = c .before .loop .inv .3 ∙ sym (c .before .before .before .before .before .before .before .before .pre .1 .0)
+same-length-3 c = c .before .loop .inv .takers-long ∙ sym (start (c .before) .pre .1 .0)
 
 same-length-4 : tie.Need-same-length-4 Inv-loop μ-loop
-same-length-4 c = c .before .loop .inv .4 ∙ sym (c .before .before .before .before .before .before .before .before .pre .1 .1)
+same-length-4 c = c .before .loop .inv .stores-long ∙ sym (start (c .before) .pre .1 .1)
 
 same-length-5 : tie.Need-same-length-5 Inv-loop μ-loop
-same-length-5 c = c .before .loop .inv .5 ∙ sym (c .before .before .before .before .before .before .before .before .pre .1 .2)
+same-length-5 c = c .before .loop .inv .amounts-long ∙ sym (start (c .before) .pre .1 .2)
 
 returns : tie.Need-returns Inv-loop μ-loop
 returns c =
-    let at = c .before in
-    let start = at .before .before .before .before .before .before .before in
-    let a = start .args in
-    (formed-end (a .b) (a .b .held + 32) (now (a .buyers)) (now (a .elevators)) (at .loop .buyers) (at .loop .elevators) (at .loop .takers) (at .loop .stores) (at .loop .amounts) (at .loop .count) (at .loop .inv) (omega arith), (omega (arith, facts _ (start .pre .0 .0) .held), (at .loop .inv .6, at .loop .inv .7)))
+    let f = c .before .loop .inv in
+    (formed-end f (omega arith), (omega (arith, few f), (f .takers-held, f .stores-stand)))
 
 same-length-6 : tie.Need-same-length-6 Inv-loop μ-loop
-same-length-6 c = c .before .before .before .before .before .before .before .before .before .before .before .loop .inv .1 ∙ sym (c .before .before .before .before .before .before .before .before .before .before .before .before .before .before .before .before .before .before .pre .0 .1)
+same-length-6 c = from (c .before) .loop .inv .buyers-long ∙ sym (start (from (c .before)) .pre .0 .1)
 
 same-length-7 : tie.Need-same-length-7 Inv-loop μ-loop
-same-length-7 c = c .before .before .before .before .before .before .before .before .before .before .before .loop .inv .2 ∙ sym (c .before .before .before .before .before .before .before .before .before .before .before .before .before .before .before .before .before .before .pre .0 .2)
+same-length-7 c = from (c .before) .loop .inv .elevators-long ∙ sym (start (from (c .before)) .pre .0 .2)
 
 same-length-8 : tie.Need-same-length-8 Inv-loop μ-loop
-same-length-8 c = c .before .before .before .before .before .before .before .before .before .before .before .loop .inv .3 ∙ sym (c .before .before .before .before .before .before .before .before .before .before .before .before .before .before .before .before .before .before .pre .1 .0)
+same-length-8 c = from (c .before) .loop .inv .takers-long ∙ sym (start (from (c .before)) .pre .1 .0)
 
 same-length-9 : tie.Need-same-length-9 Inv-loop μ-loop
-same-length-9 c = c .before .before .before .before .before .before .before .before .before .before .before .loop .inv .4 ∙ sym (c .before .before .before .before .before .before .before .before .before .before .before .before .before .before .before .before .before .before .pre .1 .1)
+same-length-9 c = from (c .before) .loop .inv .stores-long ∙ sym (start (from (c .before)) .pre .1 .1)
 
 same-length-10 : tie.Need-same-length-10 Inv-loop μ-loop
-same-length-10 c = c .before .before .before .before .before .before .before .before .before .before .before .loop .inv .5 ∙ sym (c .before .before .before .before .before .before .before .before .before .before .before .before .before .before .before .before .before .before .pre .1 .2)
+same-length-10 c = from (c .before) .loop .inv .amounts-long ∙ sym (start (from (c .before)) .pre .1 .2)
 
 returns-2 : tie.Need-returns-2 Inv-loop μ-loop
 returns-2 c =
-    let at = c .before .before .before .before .before .before .before .before .before .before .before in
-    let start = at .before .before .before .before .before .before .before in
-    let a = start .args in
-    (formed-stop (a .b) (a .b .held + 32) (now (a .buyers)) (now (a .elevators)) (at .loop .buyers) (at .loop .elevators) (at .loop .takers) (at .loop .stores) (at .loop .amounts) (at .loop .count) (at .loop .inv) (c .before .before .before .before .before .before .before .before .buyer .result) (c .before .before .before .before .before .before .elevator .result) (c .before .before .before .before .read .result) (c .before .before .read2 .result) (c .before .smaller .result) (c .before .before .before .before .before .before .before .before .before .before .loop-test .taken) (omega (arith, facts _ (start .pre .0 .0) .held)) (c .before .before .before .before .before .before .before .before .buyer .ensures) (c .before .before .before .before .before .before .elevator .ensures) (c .before .before .before .before .read .ensures) (c .before .before .read2 .ensures) (c .before .smaller .ensures) (c .if1 .taken), (omega (arith, facts _ (start .pre .0 .0) .held), (at .loop .inv .6, at .loop .inv .7)))
+    let f = from (c .before) .loop .inv in
+    (formed-stop f (c .before .before .before .before .before .before .before .before .before .before .loop-test .taken) (c .before .before .before .before .before .before .before .before .buyer .ensures) (c .before .before .before .before .before .before .elevator .ensures) (c .before .before .before .before .read .ensures) (c .before .before .read2 .ensures) (c .before .smaller .ensures) (c .if1 .taken), (omega (arith, few f), (f .takers-held, f .stores-stand)))
 
 pub form-pairs-spec : {M : Type 1} → statement M
 form-pairs-spec =
