@@ -9,10 +9,10 @@ use Rattle.judge.proofs.notices.notice_filed.Statement.{statement}
 use Rattle.judge.proofs.notices.notice_filed.Tie as tie
 
 abbrev Inv-loop : tie.InvT-loop
-Inv-loop section elevator from b filed i₀ i = noticeFiled section elevator (drop from (filedNotices b)) ≡ noticeFiled section elevator (drop i (filedNotices b))
+Inv-loop section elevator b filed i₀ i = noticeFiled section elevator (filedNotices b) ≡ noticeFiled section elevator (drop i (filedNotices b))
 
 abbrev μ-loop : tie.MeasureT-loop
-μ-loop section elevator from b filed i₀ i = filed - i
+μ-loop section elevator b filed i₀ i = filed - i
 
 places : (c : tie.Start Inv-loop μ-loop) → length (c .args .t1 .notices) ≡ 256
 places c = search (needs, length-mapped)

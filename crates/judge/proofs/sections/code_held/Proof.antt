@@ -8,10 +8,10 @@ use Rattle.judge.proofs.sections.code_held.Statement.{statement}
 use Rattle.judge.proofs.sections.code_held.Tie as tie
 
 abbrev Inv-loop : tie.InvT-loop
-Inv-loop code from b held i₀ i = sectionCodeHeld code (drop from (heldSections b)) ≡ sectionCodeHeld code (drop i (heldSections b))
+Inv-loop code b held i₀ i = sectionCodeHeld code (heldSections b) ≡ sectionCodeHeld code (drop i (heldSections b))
 
 abbrev μ-loop : tie.MeasureT-loop
-μ-loop code from b held i₀ i = held - i
+μ-loop code b held i₀ i = held - i
 
 places : (c : tie.Start Inv-loop μ-loop) → length (c .args .t1 .sections) ≡ 128
 places c = search (needs, length-mapped)
