@@ -1,11 +1,12 @@
 // The notices.
 ghost use Rattle.rules.specs.Words.{_≡_, _+_, _*_, _≤_};
-ghost use Rattle.rules.specs.Book.{filedNotices, noticeGood, noticeBlank, noticesGood};
+ghost use Rattle.rules.specs.Book.{elevators, filedNotices, noticeGood, noticeBlank, noticesGood};
 ghost use Rattle.rules.specs.Calls.{noticeFiled};
 use crate::keys;
 use rules::book::Book;
 use rules::book::Notice;
 use rules::limits::ELEVATOR_MOST;
+use rules::limits::ELEVATORS;
 use rules::limits::NOTICE_LOTS_MOST;
 use value::signed;
 
@@ -45,24 +46,25 @@ pub fn notice_filed(b: Book, section: u8, elevator: u8) -> bool
     ensures { λ r. ⌜ r ≡ noticeFiled section elevator (filedNotices b) ⌝ }
 {
     let filed = b.filed;
-    let mut i = 0;
-    while i < filed {
-        let n = b.notices[i];
+    let mut at = 0;
+    while at < filed {
+        let n = b.notices[at];
         if section == n.section {
             if elevator == n.elevator {
                 return true;
             }
         }
-        i += 1;
+        at += 1;
     }
     false
 }
 
 // A section's number and an elevator's in one.
 fn key(section: u8, elevator: u8) -> u64
-    ensures { λ r. ⌜ r ≡ section * 32 + elevator ⌝ }
+    ensures { λ r. ⌜ r ≡ section * elevators + elevator ⌝ }
 {
-    (section as u64) * 32 + (elevator as u64)
+    let base = ELEVATORS as u64;
+    (section as u64) * base + (elevator as u64)
 }
 
 // Whether every notice filed keeps its limits, and no two are of one section at one elevator, in one walk over the notices (01, Notice, 1).

@@ -64,14 +64,14 @@ pub fn code_held(b: Book, code: [u8; 7]) -> bool
     ensures { λ r. ⌜ r ≡ sectionCodeHeld code (heldSections b) ⌝ }
 {
     let held = b.held;
-    let mut i = 0;
-    while i < held {
-        let s = b.sections[i];
+    let mut at = 0;
+    while at < held {
+        let s = b.sections[at];
         let other = s.code;
         if section_code::same_code(code, other) {
             return true;
         }
-        i += 1;
+        at += 1;
     }
     false
 }
