@@ -7,6 +7,7 @@ pub mod Whole
 pub mod Sums
 pub mod Bytes
 pub mod Little
+pub mod Keys
 pub mod Cells
 pub mod Ranges
 pub mod Entries

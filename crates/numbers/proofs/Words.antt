@@ -25,4 +25,4 @@ unfoldable pub use Rattle.numbers.specs.Sums.{gathered, many}
 pub use Rattle.numbers.specs.Sums.{total, totalℤ}
 pub use Rattle.numbers.specs.Whole.{between, within}
 unfoldable pub use Rattle.numbers.specs.Little.{allZero, bytesOf, numberOf}
-unfoldable pub use Rattle.numbers.specs.Bytes.{before, same}
+unfoldable pub use Rattle.numbers.specs.Bytes.{before, bigEndian, same}

@@ -1,10 +1,8 @@
 use Rattle.numbers.proofs.Words.{needs, _+_, _-_, _≤_, arith, _≡_, refl, sym, _∙_, length, drop, same}
 use Rattle.numbers.proofs.Lists.{has}
 use Rattle.numbers.proofs.Bytes.{same-next, same-stop, same-end}
-use Rattle.judge.proofs.codes.same_code.Statement.{statement}
-use Rattle.judge.proofs.codes.same_code.Tie as tie
-use Rattle.judge.proofs.codes.same_code.Reads as reads
-use Rattle.judge.proofs.codes.same_code.Lts as lts
+use Rattle.section_code.proofs.same_code.Statement.{statement}
+use Rattle.section_code.proofs.same_code.Tie as tie
 
 abbrev Inv-loop : tie.InvT-loop
 Inv-loop a b i₀ i = (i ≤ 7) × (same a b ≡ same (drop i a) (drop i b))

@@ -1,6 +1,6 @@
 use Rattle.numbers.proofs.Words.{arith, lt-leb, le-leb}
-use Rattle.judge.proofs.codes.byte_good.Statement.{statement}
-use Rattle.judge.proofs.codes.byte_good.Tie as tie
+use Rattle.section_code.proofs.byte_good.Statement.{statement}
+use Rattle.section_code.proofs.byte_good.Tie as tie
 
 returns : tie.Need-returns
 returns c = simp (lt-leb 48 (c .before .args .byte) (c .if1 .taken), lt-leb 65 (c .before .args .byte) (omega arith))

@@ -2,11 +2,8 @@ use Rattle.numbers.proofs.Words.{needs, eq-eqb, eqb, _+_, _-_, _≤_, arith, _�
 use Rattle.numbers.proofs.Tests.{failed, passed, together, fails-right}
 use Rattle.numbers.proofs.Lists.{has, every-next, every-stop, every-end}
 use Rattle.rules.specs.Book.{byteGood}
-use Rattle.judge.proofs.codes.code_good.Statement.{statement}
-use Rattle.judge.proofs.codes.code_good.Tie as tie
-use Rattle.judge.proofs.codes.code_good.Reads as reads
-use Rattle.judge.proofs.codes.code_good.Lts as lts
-use Rattle.judge.proofs.codes.byte_good.Reads as byte-good-reads
+use Rattle.section_code.proofs.code_good.Statement.{statement}
+use Rattle.section_code.proofs.code_good.Tie as tie
 
 abbrev Inv-loop : tie.InvT-loop
 Inv-loop code i₀ i = (i ≤ 7) × (every byteGood code ≡ every byteGood (drop i code))
