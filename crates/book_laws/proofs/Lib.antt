@@ -7,6 +7,5 @@ pub mod Held
 pub mod Kept
 pub mod Lots
 pub mod Margins
-pub mod Net
 pub mod NoBook
 pub mod Telescope

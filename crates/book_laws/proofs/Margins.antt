@@ -3,7 +3,6 @@ use Rattle.numbers.proofs.Words.{ℕ, _≡_, ap, ap₂, _∙_, map, ℤ, pos, _
 use Rattle.rules.specs.declared.book.{Book.Book, Section.Section}
 use Rattle.numbers.proofs.Sums.{total-product, total-difference}
 use Rattle.rules.specs.Units.{worth}
-use Rattle.rules.specs.Value.{factor, value, valueOf}
 use Rattle.rules.specs.Book.{positionOf, basisOf, heldSections, valueAt}
 use Rattle.rules.specs.Calls.{sessionNumber, marginOf, margins}
 use Rattle.book_laws.proofs.Accepted.{session}
@@ -11,10 +10,10 @@ use Rattle.book_laws.proofs.Good.{Good}
 
 -- what the positions are worth at a price sums to V times their sum
 pub worths-sum : (b : Book) (price : ℕ) → Good b → totalℤ (map (λ (s : Section). worth (s .position) (valueAt b price) .0) (heldSections b)) ≡ pos 0
-unfolding worth valueOf
+unfolding worth
 worths-sum b price book =
-    let v = value (factor (b .w) (b .r)) price in
-    total-product positionOf v (heldSections b) ∙ ap (λ (z : ℤ). z *ℤ pos v) (book .positions) ∙ zero-*ℤ (pos v)
+    let v = valueAt b price .0 in
+    total-product positionOf v (heldSections b) ∙ ap (λ (z : ℤ). z *ℤ v) (book .positions) ∙ zero-*ℤ v
 
 pub margins-sum : (b : Book) (price room : ℕ) → sessionNumber b price room ≡ 0 → totalℤ (margins b price) ≡ pos 0
 unfolding margins marginOf

@@ -1,6 +1,6 @@
 -- Tests over the entries of a list, one entry after the other, as a loop over the list goes: what a test says of
 -- `drop i xs` and of `drop (i + 1) xs`, where x is entry i.
-use Rattle.numbers.proofs.Words.{ℕ, zero, suc, _+_, _≤_, _<_, not-suc-le-zero, le-of-suc-le-suc, le-of-lt, add-one, arith, _≡_, refl, sym, ap, _∙_, Bool, true, false, not, List, [], _∷_, _++_, map, map-append, append-assoc, length, getD, set, take, drop, drop-of-length-le, length-map, length-append, length-drop, List·getD-append, drop-cons, take-suc, set-at, length-take-le, getD-take, not-true, every, some, apart, over}
+use Rattle.numbers.proofs.Words.{ℕ, zero, suc, _+_, _≤_, _<_, not-suc-le-zero, le-of-suc-le-suc, le-of-lt, add-one, arith, _≡_, refl, sym, ap, _∙_, Bool, true, false, not, List, [], _∷_, _++_, map, map-append, append-assoc, append-nil, flatMap, length, getD, set, take, drop, drop-of-length-le, length-map, length-append, length-drop, List·getD-append, drop-cons, take-suc, set-at, length-take-le, getD-take, not-true, every, some, apart, over}
 use Rattle.numbers.proofs.Tests.{and-left, and-right, or-left, or-right}
 
 -- xs has x at place i
@@ -109,3 +109,9 @@ written-next f {xs} {i} {x} ys here h =
 pub written-length : {A B : Type 0} (f : A → B) (xs : List A) (ys : List B) (i : ℕ) → i ≤ length xs → i ≤ length ys → length (map f (take i xs) ++ drop i ys) ≡ length ys
 written-length f xs ys i h k =
     simp (length-append, length-map, length-drop, length-take-le) (omega arith)
+
+-- the lists that the entries of a list stand for, one after the other, with one entry more
+pub flatMap-last : {A B : Type 0} (f : A → List B) (xs : List A) (y : A) → flatMap f (xs ++ (y ∷ [])) ≡ flatMap f xs ++ f y
+unfolding flatMap
+flatMap-last f [] y = append-nil (f y)
+flatMap-last f (x ∷ xs) y = ap (λ (l : List _). f x ++ l) (flatMap-last f xs y) ∙ sym (append-assoc (f x) (flatMap f xs) (f y))

@@ -1,6 +1,5 @@
 -- Laws of sums over lists, stated once over what is summed.
-use Rattle.numbers.proofs.Words.{ℕ, zero, suc, _+_, _*_, _≤_, _<_, _^_, zero-le, zero-add, add-assoc, add-comm, not-suc-le-zero, le-of-suc-le-suc, mul-le-mul-left, arith, _≡_, refl, sym, ap, _∙_, List, [], _∷_, _++_, map, map-append, map-map, length, getD, set, drop, drop-of-length-le, length-map, ℤ, pos, negℤ, natAbs, _+ℤ_, _-ℤ_, _*ℤ_, +ℤ-idl, +ℤ-idr, +ℤ-assoc, +ℤ-comm, negℤ-+ℤ, zero-*ℤ, w64, SFits, toZ, ofZ, toZ-ofZ, gathered, total, totalℤ}
-use mathlib.Core.List.{flatMap}
+use Rattle.numbers.proofs.Words.{ℕ, zero, suc, _+_, _*_, _≤_, _<_, _^_, zero-le, zero-add, add-assoc, add-comm, not-suc-le-zero, le-of-suc-le-suc, mul-le-mul-left, arith, _≡_, refl, sym, ap, _∙_, List, [], _∷_, _++_, flatMap, map, map-append, map-map, length, getD, set, drop, drop-of-length-le, length-map, ℤ, pos, negℤ, natAbs, _+ℤ_, _-ℤ_, _*ℤ_, +ℤ-idl, +ℤ-idr, +ℤ-assoc, +ℤ-comm, negℤ-+ℤ, zero-*ℤ, w64, SFits, toZ, ofZ, toZ-ofZ, gathered, total, totalℤ}
 use Rattle.numbers.proofs.Lists.{Has, from-here}
 use Rattle.numbers.proofs.Changed.{read-set, read-at}
 use Rattle.numbers.proofs.Whole.{plus, minus, ext, sum, sum-product, size, sfits-size}
@@ -19,7 +18,7 @@ wholes = record { unit = +ℤ-idl; assoc = +ℤ-assoc; comm = +ℤ-comm }
 
 module _ {A : Type 0} (join : A → A → A) (none : A) (add : Addition join none) where
   -- the second and third of four summands change places
-  exchange : (x y z t : A) → join (join x y) (join z t) ≡ join (join x z) (join y t)
+  pub exchange : (x y z t : A) → join (join x y) (join z t) ≡ join (join x z) (join y t)
   exchange x y z t = simp (add .assoc) (ap (join x) (sym (add .assoc y z t) ∙ ap (λ (r : A). join r t) (add .comm y z) ∙ add .assoc z y t))
 
   -- of an append
@@ -87,10 +86,10 @@ module _ {A : Type 0} (f : A → ℤ) where
   total-more xs y e = total-last _+ℤ_ (pos 0) wholes f xs y ∙ ap (λ (z : ℤ). totalℤ (map f xs) +ℤ z) e ∙ +ℤ-idr _
 
   -- each is multiplied
-  pub total-product : (v : ℕ) (xs : List A) → totalℤ (map (λ (x : A). f x *ℤ pos v) xs) ≡ totalℤ (map f xs) *ℤ pos v
+  pub total-product : (v : ℤ) (xs : List A) → totalℤ (map (λ (x : A). f x *ℤ v) xs) ≡ totalℤ (map f xs) *ℤ v
   total-product v xs =
-      sym (ap totalℤ (map-map (λ (z : ℤ). z *ℤ pos v) f xs))
-      ∙ total-kept _+ℤ_ (pos 0) _+ℤ_ (pos 0) (λ (z : ℤ). z *ℤ pos v) (zero-*ℤ (pos v)) (λ (x y : ℤ). sum-product x y v) (map f xs)
+      sym (ap totalℤ (map-map (λ (z : ℤ). z *ℤ v) f xs))
+      ∙ total-kept _+ℤ_ (pos 0) _+ℤ_ (pos 0) (λ (z : ℤ). z *ℤ v) (zero-*ℤ v) (λ (x y : ℤ). sum-product x y v) (map f xs)
 
   -- another reading is taken off
   pub total-difference : (g : A → ℤ) (xs : List A) → totalℤ (map (λ (x : A). f x -ℤ g x) xs) ≡ totalℤ (map f xs) -ℤ totalℤ (map g xs)

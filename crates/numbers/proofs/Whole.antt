@@ -1,6 +1,6 @@
 -- The bridge from ℤ to ℕ: `omega` does not read ℤ, so a whole number is seen as its two sides in ℕ.
 -- A linear identity is `ext _ _ (omega (arith, sum x y, ..))`, a range is a bound on the sides.
-use Rattle.numbers.proofs.Words.{ℕ, zero, suc, _+_, _-_, _*_, _≤_, _<_, _^_, add-zero, zero-add, mul-le-mul, arith, _≡_, refl, sym, ap, _∙_, Bool, true, false, not, cond, true≢false, _⊎_, inl, inr, ⊎-elim, leb, ltb, leb·suc-suc, ℤ, pos, negsuc, negℤ, natAbs, subℕ, _+ℤ_, _-ℤ_, _*ℤ_, mag, leZ, ltZ, ltb-true, ltb-false, leb-true, lt-ltb, le-ltb, le-leb, lt-leb, Width, w64, SFits, hbits, toZ, ofZ, toZ-ofZ}
+use Rattle.numbers.proofs.Words.{ℕ, zero, suc, _+_, _-_, _*_, _≤_, _<_, _^_, add-zero, zero-add, mul-le-mul, arith, _≡_, refl, sym, ap, ap₂, _∙_, Bool, true, false, not, cond, true≢false, _⊎_, inl, inr, ⊎-elim, leb, ltb, leb·suc-suc, ℤ, pos, negsuc, negℤ, natAbs, subℕ, _+ℤ_, _-ℤ_, _*ℤ_, *ℤ-comm, *ℤ-negsuc, +ℤ-negℤ-cancel, -ℤ-+ℤ-cancel, negℤ-+ℤ, mag, leZ, ltZ, ltb-true, ltb-false, leb-true, lt-ltb, le-ltb, le-leb, lt-leb, Width, w64, SFits, hbits, toZ, ofZ, toZ-ofZ}
 use Rattle.numbers.proofs.Tests.{leb-ltb, ltb-as}
 
 -- the side above 0, and the side below it
@@ -79,8 +79,8 @@ pub read-back : (w : Width) (z : ℤ) → mag z < 2 ^ hbits w → toZ w (ofZ w z
 read-back w z h = toZ-ofZ (record { sfits = h })
 
 -- products spread over sums and differences
-pub sum-product : (x y : ℤ) (v : ℕ) → (x +ℤ y) *ℤ pos v ≡ x *ℤ pos v +ℤ y *ℤ pos v
-sum-product x y v =
+sum-product-up : (x y : ℤ) (v : ℕ) → (x +ℤ y) *ℤ pos v ≡ x *ℤ pos v +ℤ y *ℤ pos v
+sum-product-up x y v =
     ext _ _
     (omega (
       arith,
@@ -90,6 +90,16 @@ sum-product x y v =
       product y v,
       product (x +ℤ y) v,
     ))
+
+pub sum-product : (x y z : ℤ) → (x +ℤ y) *ℤ z ≡ x *ℤ z +ℤ y *ℤ z
+sum-product x y (pos v) = sum-product-up x y v
+sum-product x y (negsuc n) =
+    *ℤ-negsuc (x +ℤ y) n ∙ ap negℤ (sum-product-up x y (suc n)) ∙ negℤ-+ℤ (x *ℤ pos (suc n)) (y *ℤ pos (suc n)) ∙ sym (ap₂ _+ℤ_ (*ℤ-negsuc x n) (*ℤ-negsuc y n))
+
+pub product-difference : (z x y : ℤ) → z *ℤ (x -ℤ y) ≡ z *ℤ x -ℤ z *ℤ y
+product-difference z x y =
+    let whole : (x -ℤ y) *ℤ z +ℤ y *ℤ z ≡ x *ℤ z = sym (sum-product (x -ℤ y) y z) ∙ ap (λ (t : ℤ). t *ℤ z) (-ℤ-+ℤ-cancel x y) in
+    rw (*ℤ-comm z (x -ℤ y), *ℤ-comm z x, *ℤ-comm z y) (sym (+ℤ-negℤ-cancel ((x -ℤ y) *ℤ z) (y *ℤ z)) ∙ ap (λ (t : ℤ). t -ℤ y *ℤ z) whole)
 
 -- and over a change of sign
 pub negated-product : (z : ℤ) (v : ℕ) → negℤ z *ℤ pos v ≡ negℤ (z *ℤ pos v)

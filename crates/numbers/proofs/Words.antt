@@ -3,8 +3,9 @@ pub use mathlib.Core.Path.{_∙_, _≡_, ap, ap₂, refl, subst, subst⁻¹, sub
 pub use Prim.Native.Nat.{_%_, _*_, _+_, _-_, _/_, _<_, _^_, _≤_, max, min, suc, zero, zero-le, ℕ}
 pub use lib.ListN.{List·getD-append, List·getD-eq-default, List·getD-map, drop, drop-of-length-le, getD, getD-replicate, length, length-append, length-drop, length-map, length-replicate, length-set, length-take, replicate, set, take, take-append-drop}
 pub use mathlib.Core.Bool.{Bool, _&&_, _||_, and-false, and-true, cond, false, false≢true, not, or-false, or-true, true, true≢false}
-pub use mathlib.Core.List.{List, [], _++_, _∷_, append-assoc, append-nil, flatMap, map, map-append, map-map}
-pub use lib.IntN.{+ℤ-assoc, +ℤ-comm, +ℤ-idl, +ℤ-idr, +ℤ-invr, +ℤ-negℤ-cancel, -ℤ-+ℤ-cancel, _*ℤ_, _+ℤ_, _-ℤ_, natAbs, negsuc, negℤ, negℤ-+ℤ, pos, subℕ, zero-*ℤ, ℤ}
+pub use mathlib.Core.List.{List, [], _++_, _∷_, append-assoc, append-nil, map, map-append, map-map}
+unfoldable pub use mathlib.Core.List.{flatMap}
+pub use lib.IntN.{*ℤ-comm, *ℤ-negsuc, +ℤ-assoc, +ℤ-comm, +ℤ-idl, +ℤ-idr, +ℤ-invr, +ℤ-negℤ-cancel, -ℤ-+ℤ-cancel, _*ℤ_, _+ℤ_, _-ℤ_, natAbs, negsuc, negℤ, negℤ-+ℤ, pos, subℕ, zero-*ℤ, ℤ}
 pub use borrow.Author.Tests.{eq-eqb, eqb-false, eqb-true, le-leb, le-ltb, leb-false, leb-true, lt-leb, lt-ltb, ltb-false, ltb-true, ne-eqb, not-false, not-true}
 pub use native.Mathlib.Omega.{arith}
 pub use borrow.Author.Needs.{needs}

@@ -1,5 +1,5 @@
 -- What a session does, by section number.
-use Rattle.numbers.proofs.Words.{ℕ, _≤_, _<_, arith, _≡_, refl, sym, ap, _∙_, ⊎-elim, List, [], map, getD, length-map, List·getD-eq-default, getD-take, pos}
+use Rattle.numbers.proofs.Words.{ℕ, _≤_, _<_, arith, _≡_, refl, sym, ap, _∙_, ⊎-elim, List, [], map, getD, length-map, List·getD-eq-default, getD-take, ℤ, pos, _+ℤ_, _*ℤ_, +ℤ-comm, +ℤ-idr, -ℤ-+ℤ-cancel, zero-*ℤ, entryℤ}
 use Rattle.rules.specs.declared.book.{Book.Book, Section.Section}
 use Rattle.numbers.proofs.Tests.{below-or-not}
 use Rattle.numbers.proofs.Changed.{read-at, same-rest}
@@ -8,6 +8,7 @@ use Rattle.rules.specs.Book.{positionOf, basisOf, heldSections, sectionAt, sect
 use Rattle.rules.specs.Calls.{settled, marginOf, margins, following, afterSession}
 use Rattle.book_laws.proofs.Good.{Good}
 use Rattle.book_laws.proofs.Held.{held-length}
+use Rattle.book_laws.proofs.Blank.{rest-read}
 use Rattle.book_laws.proofs.Kept.Session.{settled-held, settled-rest}
 use Rattle.book_laws.proofs.Effects.Same.{SameTerms, SameNotices, SameHolder}
 
@@ -41,10 +42,24 @@ module _ (b : Book) (price : ℕ) (book : Good b) where
       List·getD-eq-default (map (marginOf (valueAt b price)) (heldSections b)) (pos 0)
       (omega (arith, length-map (heldSections b) (marginOf (valueAt b price)), held-length b (book .section-places) (book .held)))
 
-  -- "basis becomes position·V(price)", and nothing else of any section changes
-  pub session-basis : (i : ℕ) → i < b .held → basisOf (sectionAt (afterSession b price) i) ≡ worth (sectionAt b i .position) (valueAt b price) .0
-  unfolding settled
-  session-basis i h = ap basisOf (session-section i h)
+  -- a basis becomes position·V (01, Session, 3), also past the sections held
+  pub session-basis : (i : ℕ) → basisOf (sectionAt (afterSession b price) i) ≡ worth (sectionAt b i .position) (valueAt b price) .0
+  unfolding settled worth
+  session-basis i = ⊎-elim (λ h. ap basisOf (session-section i h)) past (below-or-not i (b .held))
+    where
+      past : b .held ≤ i → basisOf (sectionAt (afterSession b price) i) ≡ positionOf (sectionAt b i) *ℤ valueAt b price .0
+      past h = ap basisOf (session-rest i h) ∙ rest-read b book i h basisOf refl ∙ sym (zero-*ℤ (valueAt b price .0)) ∙ ap (λ (z : ℤ). z *ℤ valueAt b price .0) (sym (rest-read b book i h positionOf refl))
+
+  -- a margin is what the basis rises by (01, Session, 3)
+  pub session-rise : (i : ℕ) → basisOf (sectionAt (afterSession b price) i) ≡ basisOf (sectionAt b i) +ℤ entryℤ (margins b price) i
+  unfolding marginOf
+  session-rise i = ⊎-elim held past (below-or-not i (b .held))
+    where
+      held : i < b .held → basisOf (sectionAt (afterSession b price) i) ≡ basisOf (sectionAt b i) +ℤ entryℤ (margins b price) i
+      held h = session-basis i ∙ sym (ap (λ (z : ℤ). basisOf (sectionAt b i) +ℤ z) (margin-at i h) ∙ +ℤ-comm (basisOf (sectionAt b i)) _ ∙ -ℤ-+ℤ-cancel _ (basisOf (sectionAt b i)))
+
+      past : b .held ≤ i → basisOf (sectionAt (afterSession b price) i) ≡ basisOf (sectionAt b i) +ℤ entryℤ (margins b price) i
+      past h = rw (margin-past i h, session-rest i h) (sym (+ℤ-idr (basisOf (sectionAt b i))))
 
   pub session-read : {A : Type 0} (f : Section → A) → ((s : Section) → f (settled (valueAt b price) s) ≡ f s) → (i : ℕ) → f (sectionAt (afterSession b price) i) ≡ f (sectionAt b i)
   session-read f e i = ⊎-elim (λ h. ap f (session-section i h) ∙ e (sectionAt b i)) (λ h. ap f (session-rest i h)) (below-or-not i (b .held))

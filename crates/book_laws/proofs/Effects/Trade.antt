@@ -1,30 +1,26 @@
 -- What a trade does, by section number.
-use Rattle.numbers.proofs.Words.{ℕ, _+_, _≤_, zero-le, _≡_, refl, sym, ap, _∙_, Bool, true, false, [], eqb, set, lt-length-set, getD-set-same, getD-set-other, ℤ, pos, negℤ, natAbs, _+ℤ_, +ℤ-idr, zero-*ℤ, eqb-true, eqb-false}
-use Rattle.rules.specs.declared.{book.Book.Book, book.Section.Section, units.Lots.Lots, units.Kopecks.Kopecks}
+use Rattle.numbers.proofs.Words.{ℕ, _+_, _≤_, zero-le, arith, _≡_, refl, sym, ap, _∙_, Bool, true, false, cond, [], eqb, set, lt-length-set, getD-set-same, getD-set-other, ℤ, pos, negℤ, natAbs, _+ℤ_, +ℤ-idl, +ℤ-idr, +ℤ-invr, zero-*ℤ, eqb-true, eqb-false}
+use Rattle.rules.specs.declared.{book.Book.Book, book.Section.Section, units.Kopecks.Kopecks}
 use Rattle.rules.specs.Units.{worth}
 use Rattle.rules.specs.Book.{positionOf, basisOf, sectionAt, sectionOfNoughts, valueAt}
 use Rattle.rules.specs.Calls.{moved, traded}
+use Rattle.rules.specs.History.{Trade, sided}
 use Rattle.book_laws.proofs.Accepted.{NewTrade}
 use Rattle.book_laws.proofs.Held.{held-place}
 use Rattle.book_laws.proofs.Lots.{sold-size}
 use Rattle.book_laws.proofs.Effects.Same.{SameTerms, SameNotices, SameHolder, holder-by}
 
--- the lots of a trade on the side of section i: bought plus, sold minus, none where it is neither party
-abbrev side : ℕ → Bool → Bool → Lots
-side lots true is-seller = record { 0 = pos lots }
-side lots false true = record { 0 = negℤ (pos lots) }
-side lots false false = record { 0 = pos 0 }
+-- the trade as a list of calls has it: its lots on the side of section i are `sided i` of it (01, Book, 3)
+abbrev pub tradeFor : Book → ℕ → ℕ → ℕ → ℕ → Trade
+tradeFor b buyer seller price lots = record { buyer = buyer; seller = seller; lots = lots; entryValue = valueAt b price }
 
-unfoldable pub sideLots : ℕ → ℕ → ℕ → ℕ → Lots
-sideLots buyer seller lots i = side lots (eqb i buyer) (eqb i seller)
-
-pub side-within : (buyer seller lots : ℕ) → lots ≤ 10_000 → (i : ℕ) → natAbs (sideLots buyer seller lots i .0) ≤ 10_000
-unfolding sideLots
-side-within buyer seller lots few i = go (eqb i buyer) (eqb i seller)
+pub side-within : (t : Trade) → t .lots ≤ 10_000 → (i : ℕ) → natAbs (sided i t) ≤ 10_000
+side-within t few i = go (eqb i (t .buyer)) (eqb i (t .seller))
   where
-    go : (is-buyer is-seller : Bool) → natAbs (side lots is-buyer is-seller .0) ≤ 10_000
-    go true is-seller = few
-    go false true = sold-size lots few
+    go : (is-buyer is-seller : Bool) → natAbs (cond is-buyer (pos (t .lots)) (pos 0) +ℤ cond is-seller (negℤ (pos (t .lots))) (pos 0)) ≤ 10_000
+    go true true = rw (+ℤ-invr (pos (t .lots))) zero-le
+    go true false = omega arith
+    go false true = rw (+ℤ-idl (negℤ (pos (t .lots)))) (sold-size (t .lots) few)
     go false false = zero-le
 
 -- no lots move nothing
@@ -62,22 +58,22 @@ module _ (b : Book) (buyer seller price lots : ℕ) where
       getD-set-same (set (b .sections) buyer (moved (sectionAt b buyer) (record { 0 = pos lots }) (valueAt b price))) seller _ (sectionOfNoughts [])
       (lt-length-set (b .sections) buyer _ (held-place b (call .party .book) seller (call .party .seller-known)))
 
-  -- all three in one: section i moves by the lots on its side
-  pub trade-section : NewTrade b buyer seller price lots → (i : ℕ) → sectionAt (traded b buyer seller price lots) i ≡ moved (sectionAt b i) (sideLots buyer seller lots i) (valueAt b price)
-  unfolding sideLots
+  -- all three in one: section i moves by the lots on its side (01, Book, 3)
+  pub trade-section : NewTrade b buyer seller price lots → (i : ℕ) → sectionAt (traded b buyer seller price lots) i ≡ moved (sectionAt b i) (record { 0 = sided i (tradeFor b buyer seller price lots) }) (valueAt b price)
   trade-section call i = go (eqb i buyer) (eqb i seller) refl refl
     where
-      go : (is-buyer is-seller : Bool) → eqb i buyer ≡ is-buyer → eqb i seller ≡ is-seller → sectionAt (traded b buyer seller price lots) i ≡ moved (sectionAt b i) (side lots is-buyer is-seller) (valueAt b price)
-      go true is-seller e f = rw (eqb-true i buyer e) (trade-buyer call)
-      go false true e f = rw (eqb-true i seller f) (trade-seller call)
+      go : (is-buyer is-seller : Bool) → eqb i buyer ≡ is-buyer → eqb i seller ≡ is-seller → sectionAt (traded b buyer seller price lots) i ≡ moved (sectionAt b i) (record { 0 = cond is-buyer (pos lots) (pos 0) +ℤ cond is-seller (negℤ (pos lots)) (pos 0) }) (valueAt b price)
+      go true true e f = absurd (call .party .apart (sym (eqb-true i buyer e) ∙ eqb-true i seller f))
+      go true false e f = rw (eqb-true i buyer e, +ℤ-idr (pos lots)) (trade-buyer call)
+      go false true e f = rw (eqb-true i seller f, +ℤ-idl (negℤ (pos lots))) (trade-seller call)
       go false false e f = trade-other i (eqb-false i buyer e) (eqb-false i seller f) ∙ sym (moved-none (sectionAt b i) (valueAt b price))
 
-  -- so its position moves by the lots, its basis by lots times entry value, and nothing else changes
-  pub trade-position : NewTrade b buyer seller price lots → (i : ℕ) → positionOf (sectionAt (traded b buyer seller price lots) i) ≡ positionOf (sectionAt b i) +ℤ sideLots buyer seller lots i .0
+  -- so its position moves by the lots, its basis by lots times entry value, and nothing else changes (01, Book, 3)
+  pub trade-position : NewTrade b buyer seller price lots → (i : ℕ) → positionOf (sectionAt (traded b buyer seller price lots) i) ≡ positionOf (sectionAt b i) +ℤ sided i (tradeFor b buyer seller price lots)
   unfolding moved
   trade-position call i = ap positionOf (trade-section call i)
 
-  pub trade-basis : NewTrade b buyer seller price lots → (i : ℕ) → basisOf (sectionAt (traded b buyer seller price lots) i) ≡ basisOf (sectionAt b i) +ℤ worth (sideLots buyer seller lots i) (valueAt b price) .0
+  pub trade-basis : NewTrade b buyer seller price lots → (i : ℕ) → basisOf (sectionAt (traded b buyer seller price lots) i) ≡ basisOf (sectionAt b i) +ℤ worth (record { 0 = sided i (tradeFor b buyer seller price lots) }) (valueAt b price) .0
   unfolding moved
   trade-basis call i = ap basisOf (trade-section call i)
 
