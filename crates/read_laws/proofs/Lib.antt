@@ -2,3 +2,4 @@ pub mod Written
 pub mod Steps
 pub mod Read
 pub mod Along
+pub mod Calls
