@@ -3,3 +3,4 @@ pub mod Steps
 pub mod Read
 pub mod Along
 pub mod Calls
+pub mod Demand
