@@ -1,18 +1,18 @@
 -- Demand 3 of a file: the law over its calls, read off what the file's read hands out.
-use Rattle.numbers.proofs.Words.{ℕ, zero, suc, _+_, _<_, zero-le, arith, _≡_, refl, sym, ap, ap₂, subst, _∙_, ⊎-elim, Bool, true, false, true≢false, not, cond, _||_, List, [], _∷_, _++_, append-nil, flatMap, length, length-append, eqb, eqb-true, not-false, ℤ, pos, _+ℤ_, _-ℤ_, some, Every, listed, entryℤ, totalℤ}
+use Rattle.numbers.proofs.Words.{ℕ, _+_, arith, _≡_, refl, sym, ap, subst, _∙_, Bool, true, false, true≢false, not, List, [], _∷_, _++_, flatMap, length, length-append, eqb, eqb-true, not-false, pos, _+ℤ_, _-ℤ_, some, Every}
 use Rattle.rules.specs.declared.book.{Book.Book}
 use Rattle.numbers.proofs.Tests.{or-left, or-right}
 use Rattle.numbers.proofs.Lists.{empty}
 use Rattle.numbers.proofs.Sums.{wholes}
 use Rattle.numbers.proofs.Ranges.{sum-same}
 use Rattle.rules.specs.Units.{worth}
-use Rattle.rules.specs.Calls.{handedOut, newSection, withSection, sectionAnswer, traded, tradeAnswer, afterSession, sessionAnswer, afterCondition, conditionAnswer, afterNotice, noticeAnswer, first}
+use Rattle.rules.specs.Calls.{handedOut, newSection, withSection, sectionAnswer, traded, tradeAnswer, sessionAnswer, afterCondition, conditionAnswer, afterNotice, noticeAnswer, first}
 use Rattle.rules.specs.Expiry.Call.{Lists, afterExpiry, expiryRefusals, expiryAnswer, expiryLists, dayLast}
-use Rattle.rules.specs.File.{Lent, Run, FileAnswer, readWhole, fileAnswer, fileLists}
+use Rattle.rules.specs.File.{Lent, FileAnswer, readWhole, fileAnswer}
 use Rattle.rules.specs.History.{Call, section, trade, session, condition, notice, expiry, answerOf, bookAfter, Accepted, accepted, Trade, tradeOf, trades, Session, sessionOf, sessions, Register, registerOf, registers, holds, anySession, upToLast, lastValue, net, entered, lotsWhere, Delivered, DemandThree, Holds}
 use Rattle.book_laws.proofs.Answers.{written, first-none}
-use Rattle.read_laws.specs.Calls.{startOf, callsOf, AllAccepted, ReadByCalls, ReadIsCalls}
-use Rattle.read_laws.specs.Demand.{acceptedIn, FileHolds, FileDemand}
+use Rattle.read_laws.specs.ReadCalls.{startOf, callsOf, AllAccepted, ReadByCalls, ReadIsCalls}
+use Rattle.read_laws.specs.FileDemand.{acceptedIn, FileHolds, FileDemand}
 use Rattle.read_laws.proofs.Calls.{accepted-more, last-accepted, whole-sound, sums-handed, read-is-calls}
 use Rattle.read_laws.proofs.Along.{longer-total}
 
@@ -160,6 +160,7 @@ module _ (three : DemandThree) (file : List ℕ) (lent : Lent) (e : readWhole fi
             ∙ ap (λ (ts : List Trade). worth (record { 0 = net ts i }) (lastValue (sessions told)) .0 -ℤ entered ts i) all-settled;
       }
 
+-- Demand 3 holds of what an accepted read hands out, since it holds of its calls (demand 3.1; demand 3.2; demand 3.3; demand 3.4; demand 3.5; 01, Reading, 5).
 pub file-demand : FileDemand
 unfolding FileDemand ReadIsCalls
 file-demand three file lent e = let (earlier, r) = read-is-calls file lent e in holds-of three file lent e earlier r

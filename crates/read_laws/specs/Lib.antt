@@ -1,3 +1,3 @@
 pub mod Written
-pub mod Calls
-pub mod Demand
+pub mod ReadCalls
+pub mod FileDemand
