@@ -149,6 +149,7 @@ module _ (three : DemandThree) (file : List ℕ) (lent : Lent) (e : readWhole fi
       let run = readWhole file lent in
       let s = whole-sound file lent e in
       record {
+        calls = three-holds;
         sums-even = sum-same _+ℤ_ (pos 0) wholes (run .book .held) _ _ (sums-handed file lent e) ∙ longer-total (run .sums) (run .book .held) (s .short) ∙ s .even;
         delivered =
             subst (Delivered (trades told))
