@@ -1,6 +1,7 @@
 -- The digits of a number, written from the back: what is left of the number, in front of the digits that stand, is the whole.
-use Rattle.numbers.proofs.Words.{ℕ, zero, suc, _+_, _*_, _-_, _/_, _%_, _^_, _≤_, _<_, pow-suc, arith, _≡_, refl, sym, ap, ap₂, _∙_, List, [], _∷_, length, take, drop, set, drop-of-length-le, length-set, length-take-le, drop-at, set-split, lt-ltb, le-ltb}
-use Rattle.numbers.specs.Text.{digitsFrom, decimal}
+use Rattle.numbers.proofs.Words.{ℕ, zero, suc, _+_, _*_, _-_, _/_, _%_, _^_, _≤_, _<_, pow-suc, arith, _≡_, refl, sym, ap, ap₂, _∙_, List, [], _∷_, length, take, drop, set, drop-of-length-le, length-set, length-take-le, drop-at, set-split, lt-ltb, le-ltb, true, false, ℤ, pos, natAbs, ltZ, add-one}
+use Rattle.numbers.specs.Text.{digitsFrom, decimal, signedDecimal}
+use Rattle.numbers.proofs.Whole.{negative, positive}
 
 pub record Digits (n : ℕ) (digits : List ℕ) (left from : ℕ) : Type 0 where
   pub long : length digits ≡ 20
@@ -57,3 +58,14 @@ module _ {n : ℕ} {digits : List ℕ} {left from : ℕ} (d : Digits n digits le
   digits-end h =
       let digit : x ≡ 48 + left = omega (arith, e, h) in
       here ∙ ap (λ (y : ℕ). y ∷ after) digit ∙ sym (digits-last from left after h) ∙ d .rest
+
+-- a whole number by its sign
+pub below-zero : (z : ℤ) → ltZ z (pos 0) ≡ true → signedDecimal z ≡ 45 ∷ decimal (natAbs z)
+unfolding signedDecimal
+below-zero z e =
+    let n = negative z e in
+    rw (n .1) (ap (λ (m : ℕ). 45 ∷ decimal m) (add-one (n .0)))
+
+pub above-zero : (z : ℤ) → ltZ z (pos 0) ≡ false → signedDecimal z ≡ decimal (natAbs z)
+unfolding signedDecimal
+above-zero z e = rw (positive z e .1)

@@ -1,10 +1,18 @@
-use borrow.Author.Needs.{needs}
+use Rattle.numbers.proofs.Words.{ℕ, needs, arith, _-_, _<_, _≤_, _≡_, _∙_, sym, ap, List, length, take, drop, length-drop, take-all, now}
+use Rattle.listing.specs.Columns.{field}
+use Rattle.numbers.specs.Text.{decimal}
 use Rattle.listing.proofs.text.number.Statement.{statement}
 use Rattle.listing.proofs.text.number.Tie as tie
 use Rattle.listing.proofs.text.number.Reads as reads
 use Rattle.listing.proofs.text.number.Lts as lts
 use Rattle.listing.proofs.digits.laid.Reads as laid-reads
 use Rattle.listing.proofs.text.word.Reads as word-reads
+
+-- the digits that were laid, to the end of the array
+digits : (c : tie.After-laid) → take (20 - c .laid .result) (drop (c .laid .result) (c .laid .last .1 .0)) ≡ decimal (c .before .before .before .args .n)
+digits c =
+    let rest = drop (c .laid .result) (c .laid .last .1 .0) in
+    take-all (20 - c .laid .result) rest (omega (arith, length-drop (c .laid .result) (c .laid .last .1 .0), c .laid .kept .1 .0)) ∙ c .laid .ensures .1
 
 slice-aggregate-laid : tie.Need-slice-aggregate-laid
 slice-aggregate-laid c = search needs
@@ -22,13 +30,13 @@ part-word-end : tie.Need-part-word-end
 part-word-end c = search needs
 
 word-requires : tie.Need-word-requires
-word-requires c κs = ?
+word-requires c κs = rw (digits (c .before .before .before .before)) (c .before .before .before .before .before .before .before .pre)
 
 same-length : tie.Need-same-length
 same-length c = search needs
 
 returns : tie.Need-returns
-returns c = ?
+returns c = rw (digits (c .before .before .before .before .before .before .before)) at (c .before .before .word .ensures)
 
 pub number-spec : {M : Type 1} → statement M
 number-spec =
