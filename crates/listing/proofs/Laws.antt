@@ -2,3 +2,4 @@ pub mod Laid
 pub mod Digits
 pub mod Codes
 pub mod Parts
+pub mod Rows

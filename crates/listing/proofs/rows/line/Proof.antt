@@ -15,10 +15,10 @@ start : (c : tie.Start) → Begun (now (c .args .out)) (c .args .at) (lineRowOf 
 start c = begun-row _ _ _ (c .pre .1)
 
 lots-read : (c : tie.Start) → toZ w64 (c .args .lots) ≡ pos (c .args .lots)
-lots-read c = ?
+lots-read c = toZ-pos w64 {n = c .args .lots} (omega arith)
 
 weight : (c : tie.After-tonnes) → c .tonnes .result ≡ tonnesOf (c .before .before .before .args .lot) (record { 0 = pos (c .before .before .before .args .lots) })
-weight c = c .tonnes .ensures ∙ ap (λ (z : ℤ). tonnesOf _ (record { 0 = z })) (lots-read (c .before .before .before))
+weight c = c .tonnes .ensures ∙ ap (λ (z : ℤ). tonnesOf (c .before .before .before .args .lot) (record { 0 = z })) (lots-read (c .before .before .before))
 
 cast-t14 : tie.Need-cast-t14
 cast-t14 c = search needs
