@@ -1,5 +1,5 @@
 -- Texts by number, laid one after the other by a loop.
-use Rattle.numbers.proofs.Words.{ℕ, zero, suc, _+_, _≤_, _<_, zero-add, add-one, not-suc-le-zero, le-antisymm, arith, _≡_, refl, sym, ap, _∙_, List, [], _∷_, _++_, append-assoc, append-nil, ⊎-elim, length, length-append, counted}
+use Rattle.numbers.proofs.Words.{ℕ, zero, suc, _+_, _≤_, _<_, zero-add, add-one, not-suc-le-zero, le-antisymm, arith, _≡_, refl, sym, ap, ap₂, _∙_, List, [], _∷_, _++_, append-assoc, append-nil, ⊎-elim, length, length-append, counted}
 use mathlib.Core.List.{flatMap}
 use Rattle.numbers.proofs.Ranges.{counted-more}
 use Rattle.numbers.proofs.Tests.{below-or-not}
@@ -33,6 +33,12 @@ module _ (f : ℕ → List ℕ) where
       let last : length (texts i) + length (f i) ≡ length (texts n) + length (f n) = ap (λ (j : ℕ). length (texts j) + length (f j)) (omega (arith, h, k)) in
       omega (arith, last, long-more n))
       (below-or-not i n)
+
+-- the same texts by number
+pub texts-same : (f g : ℕ → List ℕ) (n : ℕ) → ((i : ℕ) → i < n → f i ≡ g i) → texts f n ≡ texts g n
+unfolding flatMap counted
+texts-same f g zero h = refl
+texts-same f g (suc n) h = texts-more f n ∙ ap₂ _++_ (texts-same f g n (λ i k. h i (omega arith))) (h n (omega arith)) ∙ sym (texts-more g n)
 
 -- what a loop keeps: i of the n texts stand, from a place of `was` on, and there is room for all
 pub record Rows (f : ℕ → List ℕ) (n : ℕ) (was : List ℕ) (at : ℕ) (now : List ℕ) (next i : ℕ) : Type 0 where
