@@ -4,3 +4,4 @@ pub mod Codes
 pub mod Parts
 pub mod Rows
 pub mod Listing
+pub mod Most

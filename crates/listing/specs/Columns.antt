@@ -1,5 +1,5 @@
 -- The rows of a listing over what the writer is lent: the section codes end to end, and the lists (01, Program, 1).
-use Rattle.rules.specs.Words.{ℕ, _*_, List, [], _∷_, _++_, ℤ, pos, length, take, drop, decimal, signedDecimal, bytes}
+use Rattle.rules.specs.Words.{ℕ, _*_, List, [], _∷_, _++_, ℤ, pos, take, drop, decimal, signedDecimal, bytes}
 use Rattle.rules.specs.declared.{units.Tonnes.Tonnes, book.Book.Book}
 use Rattle.rules.specs.Units.{tonnesOf}
 use Rattle.rules.specs.Listing.{row, listingOf}

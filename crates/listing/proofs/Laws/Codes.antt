@@ -1,5 +1,5 @@
 -- Codes of seven bytes, end to end.
-use Rattle.numbers.proofs.Words.{ℕ, suc, _+_, _*_, _≤_, _<_, arith, _≡_, refl, sym, ap, ap₂, _∙_, List, _++_, ⊎-elim, append-assoc, length, take, drop, length-append, length-drop, length-take-le, take-append-drop, take-at, drop-at, put}
+use Rattle.numbers.proofs.Words.{ℕ, _+_, _*_, _≤_, _<_, arith, _≡_, sym, ap, _∙_, List, _++_, ⊎-elim, append-assoc, length, take, drop, length-append, length-drop, length-take-le, take-append-drop, take-at, drop-at, put}
 use Rattle.numbers.proofs.Tests.{same-or-not}
 use lib.Seq.{take-append-le, drop-append-le}
 use Rattle.listing.specs.Columns.{codeAt}

@@ -1,5 +1,5 @@
 -- The digits of a number, written from the back: what is left of the number, in front of the digits that stand, is the whole.
-use Rattle.numbers.proofs.Words.{ℕ, zero, suc, _+_, _*_, _-_, _/_, _%_, _^_, _≤_, _<_, pow-suc, arith, _≡_, refl, sym, ap, ap₂, _∙_, List, [], _∷_, length, take, drop, set, drop-of-length-le, length-set, length-take-le, drop-at, set-split, lt-ltb, le-ltb, true, false, ℤ, pos, natAbs, ltZ, add-one}
+use Rattle.numbers.proofs.Words.{ℕ, zero, suc, _+_, _-_, _/_, _%_, _^_, _≤_, _<_, pow-suc, arith, _≡_, sym, ap, _∙_, List, _∷_, length, take, drop, set, drop-of-length-le, length-set, length-take-le, drop-at, set-split, lt-ltb, le-ltb, true, false, ℤ, pos, natAbs, ltZ, add-one}
 use Rattle.numbers.specs.Text.{digitsFrom, decimal, signedDecimal}
 use Rattle.numbers.proofs.Whole.{negative, positive}
 
@@ -19,15 +19,15 @@ written-from : (l : List ℕ) (i x : ℕ) → i < length l → drop i (set l i x
 written-from l i x h = ap (drop i) (set-split l i x h) ∙ drop-at (take i l) (x ∷ drop (suc i) l) i (length-take-le i l (omega arith))
 
 -- the definition's two cases
-digits-more : (turns left : ℕ) (after : List ℕ) → 10 ≤ left → digitsFrom (suc turns) left after ≡ digitsFrom turns (left / 10) ((48 + left % 10) ∷ after)
+pub digits-more : (turns left : ℕ) (after : List ℕ) → 10 ≤ left → digitsFrom (suc turns) left after ≡ digitsFrom turns (left / 10) ((48 + left % 10) ∷ after)
 unfolding digitsFrom
 digits-more turns left after h = rw (le-ltb left 10 h, digitsFrom)
 
-digits-last : (turns left : ℕ) (after : List ℕ) → left < 10 → digitsFrom (suc turns) left after ≡ (48 + left) ∷ after
+pub digits-last : (turns left : ℕ) (after : List ℕ) → left < 10 → digitsFrom (suc turns) left after ≡ (48 + left) ∷ after
 unfolding digitsFrom
 digits-last turns left after h = rw (lt-ltb left 10 h, digitsFrom)
 
-some-place : (from left : ℕ) → left < 10 ^ suc from → 10 ≤ left → 1 ≤ from
+pub some-place : (from left : ℕ) → left < 10 ^ suc from → 10 ≤ left → 1 ≤ from
 some-place zero left h more = absurd (omega (arith, h, more))
 some-place (suc from) left h more = omega arith
 

@@ -1,5 +1,5 @@
 -- Texts laid one after the other into a list.
-use Rattle.numbers.proofs.Words.{ℕ, suc, _+_, _≤_, _<_, zero-add, add-zero, add-one, arith, _≡_, refl, sym, ap, ap₂, _∙_, List, [], _∷_, _++_, append-assoc, append-nil, length, take, drop, set, length-append, length-drop, length-take-le, take-append-drop, drop-drop, take-at, drop-at, set-split, put, over}
+use Rattle.numbers.proofs.Words.{ℕ, _+_, _≤_, _<_, zero-add, add-zero, add-one, arith, _≡_, refl, sym, ap, ap₂, _∙_, List, [], _∷_, _++_, append-assoc, append-nil, length, take, drop, set, length-append, length-drop, length-take-le, take-append-drop, drop-drop, take-at, drop-at, set-split, put, over}
 use Rattle.listing.specs.Laid.{Laid}
 
 -- nothing is laid

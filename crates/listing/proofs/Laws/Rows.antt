@@ -1,5 +1,5 @@
 -- Texts by number, laid one after the other by a loop.
-use Rattle.numbers.proofs.Words.{ℕ, zero, suc, _+_, _≤_, _<_, zero-add, add-one, not-suc-le-zero, le-antisymm, arith, _≡_, refl, sym, ap, ap₂, _∙_, List, [], _∷_, _++_, append-assoc, append-nil, ⊎-elim, length, length-append, counted}
+use Rattle.numbers.proofs.Words.{ℕ, zero, suc, _+_, _*_, _≤_, _<_, zero-add, add-one, not-suc-le-zero, le-antisymm, arith, _≡_, refl, sym, ap, ap₂, _∙_, List, [], _∷_, _++_, append-assoc, append-nil, ⊎-elim, length, length-append, counted}
 use mathlib.Core.List.{flatMap}
 use Rattle.numbers.proofs.Ranges.{counted-more}
 use Rattle.numbers.proofs.Tests.{below-or-not}
@@ -39,6 +39,12 @@ pub texts-same : (f g : ℕ → List ℕ) (n : ℕ) → ((i : ℕ) → i < n →
 unfolding flatMap counted
 texts-same f g zero h = refl
 texts-same f g (suc n) h = texts-more f n ∙ ap₂ _++_ (texts-same f g n (λ i k. h i (omega arith))) (h n (omega arith)) ∙ sym (texts-more g n)
+
+-- n texts of at most m bytes
+pub texts-most : (f : ℕ → List ℕ) (m n : ℕ) → ((i : ℕ) → i < n → length (f i) ≤ m) → length (texts f n) ≤ n * m
+unfolding flatMap counted
+texts-most f m zero h = omega arith
+texts-most f m (suc n) h = omega (arith, long-more f n, h n (omega arith), texts-most f m n (λ i k. h i (omega arith)))
 
 -- what a loop keeps: i of the n texts stand, from a place of `was` on, and there is room for all
 pub record Rows (f : ℕ → List ℕ) (n : ℕ) (was : List ℕ) (at : ℕ) (now : List ℕ) (next i : ℕ) : Type 0 where

@@ -1,16 +1,10 @@
-use Rattle.numbers.proofs.Words.{needs, arith, zero-add, length, now}
+use Rattle.numbers.proofs.Words.{needs, arith, zero-add, now}
 use Rattle.listing.specs.Columns.{listing}
 use Rattle.listing.proofs.Laws.Laid.{laid-over}
 use Rattle.listing.proofs.Laws.Listing.{parts, listing-parts}
 use Rattle.listing.proofs.Laws.Parts.{Begun, begun, room-next, then, finished}
 use Rattle.listing.proofs.accepted.Statement.{statement}
 use Rattle.listing.proofs.accepted.Tie as tie
-use Rattle.listing.proofs.accepted.Reads as reads
-use Rattle.listing.proofs.accepted.Lts as lts
-use Rattle.listing.proofs.codes.laid.Reads as laid-reads
-use Rattle.listing.proofs.rows.head.Reads as head-reads
-use Rattle.listing.proofs.rows.lines.Reads as lines-reads
-use Rattle.listing.proofs.rows.sections.Reads as sections-reads
 
 start : (c : tie.After-laid) → Begun (now (c .before .before .before .before .before .before .before .before .before .before .args .out)) 0 (listing (c .before .before .before .before .before .before .before .before .before .before .args .b) (c .before .before .before .before .before .before .before .before .before .before .args .lines) (now (c .before .before .before .before .before .before .before .before .before .before .args .buyers)) (now (c .before .before .before .before .before .before .before .before .before .before .args .elevators)) (now (c .before .before .before .before .before .before .before .before .before .before .args .sellers)) (now (c .before .before .before .before .before .before .before .before .before .before .args .lots)) (now (c .before .before .before .before .before .before .before .before .before .before .args .delivered)) (now (c .before .before .before .before .before .before .before .before .before .before .args .terminated)) (now (c .before .before .before .before .before .before .before .before .before .before .args .sums))) (now (c .before .before .before .before .before .before .before .before .before .before .args .out)) 0 (parts (c .before .before .before .before .before .before .before .before .before .before .args .b) (c .before .before .before .before .before .before .before .before .before .before .args .lines) (now (c .before .before .before .before .before .before .before .before .before .before .args .buyers)) (now (c .before .before .before .before .before .before .before .before .before .before .args .elevators)) (now (c .before .before .before .before .before .before .before .before .before .before .args .sellers)) (now (c .before .before .before .before .before .before .before .before .before .before .args .lots)) (now (c .before .before .before .before .before .before .before .before .before .before .args .delivered)) (now (c .before .before .before .before .before .before .before .before .before .before .args .terminated)) (now (c .before .before .before .before .before .before .before .before .before .before .args .sums)) (c .laid .last .1 .0))
 start c =

@@ -1,14 +1,10 @@
-use Rattle.numbers.proofs.Words.{needs, zero-add, [], _∷_, length, now}
+use Rattle.numbers.proofs.Words.{needs, zero-add, [], _∷_, now}
 use Rattle.numbers.specs.Text.{bytes, decimal}
 use Rattle.listing.specs.Columns.{refusedRow}
 use Rattle.listing.proofs.Laws.Laid.{laid-over}
 use Rattle.listing.proofs.Laws.Parts.{Begun, begun-row, ended, room-next, then, finished}
 use Rattle.listing.proofs.refused.Statement.{statement}
 use Rattle.listing.proofs.refused.Tie as tie
-use Rattle.listing.proofs.refused.Reads as reads
-use Rattle.listing.proofs.refused.Lts as lts
-use Rattle.listing.proofs.text.number.Reads as number-reads
-use Rattle.listing.proofs.text.word.Reads as word-reads
 
 start : (c : tie.Start) → Begun (now (c .args .out)) 0 (refusedRow (c .args .number) (c .args .place)) (now (c .args .out)) 0 (ended (bytes "refused" ∷ decimal (c .args .number) ∷ decimal (c .args .place) ∷ []))
 start c = begun-row _ 0 _ (rw zero-add (c .pre))

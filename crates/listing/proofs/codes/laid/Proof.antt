@@ -1,12 +1,8 @@
-use Rattle.numbers.proofs.Words.{ℕ, needs, arith, _≡_, _<_, _-_, _∙_, _*_, ap, length, now, put as put′}
+use Rattle.numbers.proofs.Words.{ℕ, needs, arith, _-_, _∙_, _*_, ap, length, put as put′}
 use Rattle.rules.specs.Book.{sectionAt}
 use Rattle.listing.proofs.Laws.Codes.{Codes, codes-next}
 use Rattle.listing.proofs.codes.laid.Statement.{statement}
 use Rattle.listing.proofs.codes.laid.Tie as tie
-use Rattle.listing.proofs.codes.laid.Reads as reads
-use Rattle.listing.proofs.codes.laid.Lts as lts
-use Rattle.file_operand.proofs.bytes.put.Reads as put-reads
-use Rattle.listing.proofs.codes.code_of.Reads as code-of-reads
 
 abbrev Inv-loop : tie.InvT-loop
 Inv-loop codes₀ b i₀ codes i = Codes (λ (j : ℕ). sectionAt b j .code) codes i

@@ -1,10 +1,7 @@
-use Rattle.numbers.proofs.Words.{needs, arith, _<_, _^_, _∙_, ap, length, length-set, now, hbits}
+use Rattle.numbers.proofs.Words.{needs, arith, length-set}
 use Rattle.listing.proofs.Laws.Digits.{Digits, digits-start, digits-place, digits-next, digits-end}
 use Rattle.listing.proofs.digits.laid.Statement.{statement}
 use Rattle.listing.proofs.digits.laid.Tie as tie
-use Rattle.listing.proofs.digits.laid.Reads as reads
-use Rattle.listing.proofs.digits.laid.Lts as lts
-use Rattle.listing.proofs.digits.digit.Reads as digit-reads
 
 abbrev Inv-loop : tie.InvT-loop
 Inv-loop n digits₀ left₀ from₀ digits left from = Digits n digits left from

@@ -1,13 +1,9 @@
-use Rattle.numbers.proofs.Words.{needs, zero-add, subst, sym, _≤_, ℕ, [], _∷_, length, now}
+use Rattle.numbers.proofs.Words.{needs, zero-add, [], _∷_, now}
 use Rattle.numbers.specs.Text.{bytes, decimal}
 use Rattle.listing.specs.Columns.{headRow}
 use Rattle.listing.proofs.Laws.Parts.{Begun, begun-row, ended, room-next, then, finished}
 use Rattle.listing.proofs.rows.head.Statement.{statement}
 use Rattle.listing.proofs.rows.head.Tie as tie
-use Rattle.listing.proofs.rows.head.Reads as reads
-use Rattle.listing.proofs.rows.head.Lts as lts
-use Rattle.listing.proofs.text.number.Reads as number-reads
-use Rattle.listing.proofs.text.word.Reads as word-reads
 
 start : (c : tie.Start) → Begun (now (c .args .out)) 0 (headRow (c .args .lines)) (now (c .args .out)) 0 (ended (bytes "register" ∷ decimal (c .args .lines) ∷ []))
 start c = begun-row _ 0 _ (rw zero-add (c .pre))

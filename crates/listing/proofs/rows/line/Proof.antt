@@ -1,15 +1,10 @@
-use Rattle.numbers.proofs.Words.{needs, arith, _*_, _+_, _≤_, _≡_, _∙_, ap, subst, sym, ℤ, pos, natAbs, [], _∷_, length, now, w64, toZ, toZ-pos}
+use Rattle.numbers.proofs.Words.{needs, arith, _≡_, _∙_, ap, ℤ, pos, [], _∷_, now, w64, toZ, toZ-pos}
 use Rattle.numbers.specs.Text.{decimal}
 use Rattle.rules.specs.Units.{tonnesOf}
 use Rattle.listing.specs.Columns.{codeAt, lineRowOf}
 use Rattle.listing.proofs.Laws.Parts.{Begun, begun-row, ended, room-next, then, finished}
 use Rattle.listing.proofs.rows.line.Statement.{statement}
 use Rattle.listing.proofs.rows.line.Tie as tie
-use Rattle.listing.proofs.rows.line.Reads as reads
-use Rattle.listing.proofs.rows.line.Lts as lts
-use Rattle.listing.proofs.rows.tonnes.Reads as tonnes-reads
-use Rattle.listing.proofs.text.code.Reads as code-reads
-use Rattle.listing.proofs.text.number.Reads as number-reads
 
 start : (c : tie.Start) → Begun (now (c .args .out)) (c .args .at) (lineRowOf (now (c .args .codes)) (c .args .lot) (c .args .buyer) (c .args .elevator) (c .args .seller) (c .args .lots)) (now (c .args .out)) (c .args .at) (ended (codeAt (now (c .args .codes)) (c .args .buyer) ∷ decimal (c .args .elevator) ∷ codeAt (now (c .args .codes)) (c .args .seller) ∷ decimal (c .args .lots) ∷ decimal (tonnesOf (c .args .lot) (record { 0 = pos (c .args .lots) }) .0) ∷ []))
 start c = begun-row _ _ _ (c .pre .1)

@@ -1,11 +1,8 @@
-use Rattle.numbers.proofs.Words.{ℕ, needs, arith, _-_, length, now, entry}
+use Rattle.numbers.proofs.Words.{ℕ, needs, arith, _-_, entry}
 use Rattle.listing.specs.Columns.{lineRowOf}
 use Rattle.listing.proofs.Laws.Rows.{Rows, rows-start, rows-room, rows-next, rows-length, rows-end}
 use Rattle.listing.proofs.rows.lines.Statement.{statement}
 use Rattle.listing.proofs.rows.lines.Tie as tie
-use Rattle.listing.proofs.rows.lines.Reads as reads
-use Rattle.listing.proofs.rows.lines.Lts as lts
-use Rattle.listing.proofs.rows.line.Reads as line-reads
 
 abbrev Inv-loop : tie.InvT-loop
 Inv-loop codes buyers elevators sellers lots lot lines out₀ at next₀ i₀ out next i = Rows (λ (j : ℕ). lineRowOf codes lot (entry buyers j) (entry elevators j) (entry sellers j) (entry lots j)) lines out₀ at out next i

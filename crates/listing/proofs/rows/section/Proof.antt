@@ -1,14 +1,9 @@
-use Rattle.numbers.proofs.Words.{needs, arith, _≡_, _∙_, ap, ℤ, [], _∷_, length, now, w64, toZ, ofZ, toZ-ofZ}
+use Rattle.numbers.proofs.Words.{needs, arith, _≡_, [], _∷_, now, w64, toZ, ofZ, toZ-ofZ}
 use Rattle.numbers.specs.Text.{decimal, signedDecimal}
 use Rattle.listing.specs.Columns.{codeAt, sectionRowOf}
 use Rattle.listing.proofs.Laws.Parts.{Begun, begun-row, ended, room-next, then, finished}
 use Rattle.listing.proofs.rows.section.Statement.{statement}
 use Rattle.listing.proofs.rows.section.Tie as tie
-use Rattle.listing.proofs.rows.section.Reads as reads
-use Rattle.listing.proofs.rows.section.Lts as lts
-use Rattle.listing.proofs.text.code.Reads as code-reads
-use Rattle.listing.proofs.text.number.Reads as number-reads
-use Rattle.listing.proofs.text.whole.Reads as whole-reads
 
 start : (c : tie.Start) → Begun (now (c .args .out)) (c .args .at) (sectionRowOf (now (c .args .codes)) (c .args .i) (c .args .delivered) (c .args .terminated) (c .args .sum)) (now (c .args .out)) (c .args .at) (ended (codeAt (now (c .args .codes)) (c .args .i) ∷ decimal (c .args .delivered) ∷ decimal (c .args .terminated) ∷ signedDecimal (c .args .sum) ∷ []))
 start c = begun-row _ _ _ (c .pre .1)

@@ -1,12 +1,9 @@
-use Rattle.numbers.proofs.Words.{ℕ, needs, arith, _-_, _≡_, length, now, entry, entryℤ, w64, toZ, ofZ}
+use Rattle.numbers.proofs.Words.{ℕ, needs, arith, _-_, _≡_, now, entry, entryℤ, w64, toZ, ofZ}
 use Rattle.numbers.proofs.Whole.{read-back}
 use Rattle.listing.specs.Columns.{sectionRowOf}
 use Rattle.listing.proofs.Laws.Rows.{Rows, rows-start, rows-room, rows-next, rows-length, rows-end}
 use Rattle.listing.proofs.rows.sections.Statement.{statement}
 use Rattle.listing.proofs.rows.sections.Tie as tie
-use Rattle.listing.proofs.rows.sections.Reads as reads
-use Rattle.listing.proofs.rows.sections.Lts as lts
-use Rattle.listing.proofs.rows.section.Reads as section-reads
 
 abbrev Inv-loop : tie.InvT-loop
 Inv-loop codes delivered terminated sums held out₀ at next₀ i₀ out next i = Rows (λ (j : ℕ). sectionRowOf codes j (entry delivered j) (entry terminated j) (entryℤ sums j)) held out₀ at out next i

@@ -1,4 +1,4 @@
-use Rattle.numbers.proofs.Words.{ℕ, _*_, _≤_, needs, arith, _≡_, _∙_, ap, ap₂, natAbs, mul-le-mul, w64, ℤ}
+use Rattle.numbers.proofs.Words.{ℕ, _*_, _≤_, needs, arith, _≡_, _∙_, ap, natAbs, mul-le-mul, w64}
 use Rattle.numbers.proofs.Whole.{read-back}
 use Rattle.rules.specs.Units.{tonnesOf}
 use Rattle.listing.proofs.rows.tonnes.Statement.{statement}

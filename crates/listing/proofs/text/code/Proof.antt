@@ -1,11 +1,6 @@
-use Rattle.numbers.proofs.Words.{ℕ, needs, arith, _+_, _-_, _*_, _≡_, List, ap, sym, subst, length, take, drop, now}
-use Rattle.listing.specs.Columns.{field}
-use Rattle.listing.specs.Laid.{Laid}
+use Rattle.numbers.proofs.Words.{ℕ, needs, arith, _+_, _-_, _*_, _≡_}
 use Rattle.listing.proofs.text.code.Statement.{statement}
 use Rattle.listing.proofs.text.code.Tie as tie
-use Rattle.listing.proofs.text.code.Reads as reads
-use Rattle.listing.proofs.text.code.Lts as lts
-use Rattle.listing.proofs.text.word.Reads as word-reads
 
 mul-from : tie.Need-mul-from
 mul-from c = search needs

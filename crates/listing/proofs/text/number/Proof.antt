@@ -1,12 +1,7 @@
-use Rattle.numbers.proofs.Words.{ℕ, needs, arith, _-_, _<_, _≤_, _≡_, _∙_, sym, ap, List, length, take, drop, length-drop, take-all, now}
-use Rattle.listing.specs.Columns.{field}
+use Rattle.numbers.proofs.Words.{needs, arith, _-_, _≡_, _∙_, take, drop, length-drop, take-all}
 use Rattle.numbers.specs.Text.{decimal}
 use Rattle.listing.proofs.text.number.Statement.{statement}
 use Rattle.listing.proofs.text.number.Tie as tie
-use Rattle.listing.proofs.text.number.Reads as reads
-use Rattle.listing.proofs.text.number.Lts as lts
-use Rattle.listing.proofs.digits.laid.Reads as laid-reads
-use Rattle.listing.proofs.text.word.Reads as word-reads
 
 -- the digits that were laid, to the end of the array
 digits : (c : tie.After-laid) → take (20 - c .laid .result) (drop (c .laid .result) (c .laid .last .1 .0)) ≡ decimal (c .before .before .before .args .n)

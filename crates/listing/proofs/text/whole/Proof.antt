@@ -1,14 +1,10 @@
-use Rattle.numbers.proofs.Words.{ℕ, needs, arith, _+_, _≤_, _≡_, _∙_, sym, ap, List, [], _∷_, length, length-set, now, ℤ, pos, natAbs, ltZ, w64, toZ, ofZ, toZ-ofZ}
+use Rattle.numbers.proofs.Words.{ℕ, needs, arith, _+_, _≤_, _≡_, _∙_, sym, ap, [], _∷_, length, length-set, now, ℤ, pos, natAbs, ltZ, w64, toZ, ofZ, toZ-ofZ}
 use Rattle.numbers.specs.Text.{decimal, signedDecimal}
 use Rattle.listing.specs.Columns.{field}
 use Rattle.listing.proofs.Laws.Digits.{below-zero, above-zero}
 use Rattle.listing.proofs.Laws.Laid.{laid-then, laid-byte}
 use Rattle.listing.proofs.text.whole.Statement.{statement}
 use Rattle.listing.proofs.text.whole.Tie as tie
-use Rattle.listing.proofs.text.whole.Reads as reads
-use Rattle.listing.proofs.text.whole.Lts as lts
-use Rattle.listing.proofs.text.number.Reads as number-reads
-use Rattle.value.proofs.signed.size.Reads as size-reads
 
 back : (s : tie.Start) → toZ w64 (ofZ w64 (s .args .z)) ≡ s .args .z
 back s = toZ-ofZ (s .fits .z)

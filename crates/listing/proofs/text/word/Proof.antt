@@ -1,5 +1,5 @@
-use Rattle.numbers.proofs.Words.{needs, arith, _+_, _<_, length, [], _∷_, length-append, now, refl, _∙_}
-use Rattle.listing.proofs.Laws.Laid.{laid-then, laid-byte, laid-length}
+use Rattle.numbers.proofs.Words.{needs, arith, _+_, _<_, length, [], _∷_, length-append, now, refl}
+use Rattle.listing.proofs.Laws.Laid.{laid-then, laid-byte}
 use Rattle.listing.proofs.text.word.Statement.{statement}
 use Rattle.listing.proofs.text.word.Tie as tie
 
