@@ -1,7 +1,9 @@
 -- The calls' `ensures`, one after the other.
-use Rattle.numbers.proofs.Words.{needs, ℕ, _≤_, arith, _≡_, sym, ap, ap₂, subst, _∙_, false, List, ltb, length, length-take-le, now, entry, total}
+use Rattle.numbers.proofs.Words.{needs, ℕ, _≤_, arith, _≡_, sym, ap, ap₂, subst, _∙_, false, List, ltb, length, length-take-le, now, entry, entryℤ, total}
 use Rattle.numbers.proofs.Ranges.{listed-length}
-use Rattle.rules.specs.Book.{heldSections}
+use Rattle.rules.specs.declared.book.{Section.Section}
+use Rattle.rules.specs.Book.{heldSections, positionOf}
+use Rattle.rules.specs.Expiry.{opposed, chosen}
 use Rattle.rules.specs.Expiry.Codes.{givenInCodes}
 use Rattle.method_laws.specs.Giving.{inOrder, taken}
 use Rattle.method_laws.proofs.Shares.{taken-sizes}
@@ -85,7 +87,7 @@ returns c =
     gave .give .ensures
     ∙ ap₂ (λ (lots caps : List ℕ). give lots caps (summed .sum .result)) (front-is _ noughts (lots at) (lots-long at) ∙ at .on-side-in-codes .ensures) (sized .magnitudes .ensures)
     ∙ ap (give _ _) (summed .sum .ensures ∙ ap total (sized .magnitudes .ensures))
-    ∙ taken-sizes ss (held-told (start .args .b) (book start)) false _ (now (start .args .gaps)) (listed-length (length ss) _)
+    ∙ taken-sizes ss (held-told (start .args .b) (book start)) false (chosen ss (λ (s : Section). opposed (positionOf s) (entryℤ (now (start .args .gaps)) (s .settlement))) (now (start .args .sound))) (now (start .args .gaps)) (listed-length (length ss) _)
 
 pub give-in-codes-spec : {M : Type 1} → statement M
 give-in-codes-spec =
