@@ -37,7 +37,7 @@ pub fn refusal(b: Book, section: u8, elevator: u8, lots: u32) -> u8
     if !terms::counted(lots, NOTICE_LOTS_MOST) {
         return BAD_NOTICE_LOTS;
     }
-    if notices::notice_filed(b, section, elevator, 0) {
+    if notices::notice_filed(b, section, elevator) {
         return NOTICE_FILED;
     }
     if NOTICE_PLACES <= b.filed {

@@ -2,7 +2,6 @@
 ghost use Rattle.rules.specs.Words.{_≡_, true};
 ghost use Rattle.rules.specs.Book.{good};
 ghost use Rattle.rules.specs.Calls as Rules;
-use judge::codes;
 use judge::sections;
 use rules::book::Answer;
 use rules::book::Book;
@@ -30,10 +29,10 @@ pub fn refusal(b: Book, settlement: u8, code: [u8; 7]) -> u8
     if SETTLEMENT_MOST < settlement {
         return BAD_SETTLEMENT;
     }
-    if !codes::code_good(code) {
+    if !section_code::code_good(code) {
         return BAD_CODE;
     }
-    if sections::code_held(b, code, 0) {
+    if sections::code_held(b, code) {
         return CODE_HELD;
     }
     if SECTION_PLACES <= b.held {

@@ -74,7 +74,7 @@ pub fn after_session(b: Book, price: u32, margins: &mut [i64]) -> Book
     ensures { λ r. ⌜ r ≡ Rules.afterSession b price ⌝ }
     ensures { λ r. ⌜ now (margins .exit) ≡ Rules.margins b price ++ drop (length (Rules.margins b price)) (now (margins .entry)) ⌝ }
 {
-    let value = terms::value_at(b, price);
+    let value = terms::value_at(b.w, b.r, price);
     let held = b.held;
     let mut sections = b.sections;
     let mut i = 0;

@@ -1,6 +1,6 @@
 // A trade.
-ghost use Rattle.rules.specs.Words.{_≡_, true, _≤_, _<_, natAbs};
-ghost use Rattle.rules.specs.Book.{good, positionOf, basisOf, valueAt};
+ghost use Rattle.rules.specs.Words.{_≡_, true, cond, _||_, _≤_, leb, eqb, natAbs, pos, negℤ};
+ghost use Rattle.rules.specs.Book.{good, positionOf, basisOf, tradesMost};
 ghost use Rattle.rules.specs.Calls.{first};
 ghost use Rattle.rules.specs.Calls as Rules;
 use judge::terms;
@@ -35,14 +35,12 @@ fn exceeds(s: Section, lots: i64) -> bool
 }
 
 // 5, 10 and 11 of a trade, 0 where none of them is said (01, Trade, 1).
-fn party_refusal(b: Book, buyer: u8, seller: u8) -> u8
-    requires { ⌜ good b ≡ true ⌝ }
-    ensures { λ n. ⌜ n ≡ first (Rules.partyRefusals b buyer seller) ⌝ }
+fn party_refusal(expired: bool, held: usize, buyer: u8, seller: u8) -> u8
+    ensures { λ n. ⌜ n ≡ cond expired 5 (cond (leb held buyer || leb held seller) 10 (cond (eqb buyer seller) 11 0)) ⌝ }
 {
-    let held = b.held;
     let bought = buyer as usize;
     let sold = seller as usize;
-    if b.expired {
+    if expired {
         return EXPIRED;
     }
     if held <= bought {
@@ -74,21 +72,18 @@ fn size_refusal(r: u32, price: u32, lots: u32) -> u8
     ACCEPTED
 }
 
-// 14 and 15 of a trade (01, Trade, 1).
-fn room_refusal(b: Book, buyer: u8, seller: u8, lots: u32) -> u8
-    requires { ⌜ good b ≡ true ⌝ }
-    requires { ⌜ (buyer < b .held) × (seller < b .held) × (lots ≤ 10_000) ⌝ }
-    ensures { λ n. ⌜ n ≡ first (Rules.roomRefusals b buyer seller lots) ⌝ }
+// 14 and 15 of a trade between two sections (01, Trade, 1).
+fn room_refusal(s: Section, t: Section, trades: u32, lots: u32) -> u8
+    requires { ⌜ (natAbs (positionOf s) ≤ 1_000_000) × (natAbs (positionOf t) ≤ 1_000_000) × (lots ≤ 10_000) ⌝ }
+    ensures { λ n. ⌜ n ≡ cond (Rules.exceeds s (pos lots) || Rules.exceeds t (negℤ (pos lots))) 14 (cond (leb tradesMost trades) 15 0) ⌝ }
 {
-    let s = b.sections[buyer as usize];
     if exceeds(s, lots as i64) {
         return POSITION_EXCEEDED;
     }
-    let t = b.sections[seller as usize];
     if exceeds(t, 0 - (lots as i64)) {
         return POSITION_EXCEEDED;
     }
-    if TRADES_MOST <= b.trades {
+    if TRADES_MOST <= trades {
         return TRADES_FULL;
     }
     ACCEPTED
@@ -99,7 +94,7 @@ pub fn refusal(b: Book, buyer: u8, seller: u8, price: u32, lots: u32) -> u8
     requires { ⌜ good b ≡ true ⌝ }
     ensures { λ n. ⌜ n ≡ Rules.tradeNumber b buyer seller price lots ⌝ }
 {
-    let party = party_refusal(b, buyer, seller);
+    let party = party_refusal(b.expired, b.held, buyer, seller);
     if party != ACCEPTED {
         return party;
     }
@@ -107,7 +102,9 @@ pub fn refusal(b: Book, buyer: u8, seller: u8, price: u32, lots: u32) -> u8
     if size != ACCEPTED {
         return size;
     }
-    room_refusal(b, buyer, seller, lots)
+    let s = b.sections[buyer as usize];
+    let t = b.sections[seller as usize];
+    room_refusal(s, t, b.trades, lots)
 }
 
 // A section after so many lots at an entry value, bought plus, sold minus (01, Book, 3).
@@ -133,7 +130,7 @@ pub fn traded(b: Book, buyer: u8, seller: u8, price: u32, lots: u32) -> Book
     requires { ⌜ Rules.tradeNumber b buyer seller price lots ≡ 0 ⌝ }
     ensures { λ r. ⌜ r ≡ Rules.traded b buyer seller price lots ⌝ }
 {
-    let value = terms::value_at(b, price);
+    let value = terms::value_at(b.w, b.r, price);
     let bought = buyer as usize;
     let sold = seller as usize;
     let s = b.sections[bought];

@@ -1,4 +1,4 @@
-// Document 01's worked example by the public calls, up to its notices: a row for each call with its answer, and after the
+// The worked example by the public calls, up to its notices (01, Checked, 6): a row for each call with its answer, and after the
 // day session the margins and their sum. Then a call that is refused, and one on the book of noughts.
 use libc::STDOUT_FILENO;
 use rules::book::Answer;

@@ -1,6 +1,5 @@
-// Document 01's worked example: fifteen events are written into 271 bytes over what stood there, and read back. The rows:
-// what each write answered, the last one being past the end; the sizes; the kinds; each operand; each event up to the refusal
-// of a sixteenth; and the refusal of a file that is a byte short.
+// The worked example as a file (01, Checked, 6), written over other bytes and read back. The rows: what each write answered, one of them past the end;
+// the sizes; the kinds; the operands; the events, up to a refusal past the last; and the refusal of the file cut short by a byte.
 use file_event::read;
 use file_event::write;
 use rules::events::Event;

@@ -1,12 +1,13 @@
-// The notices filed, and the places beyond them.
-ghost use Rattle.rules.specs.Words.{_≡_, _≤_, drop, every, apart};
-ghost use Rattle.rules.specs.Book.{filedNotices, noticesAlike, noticeGood, noticeBlank, noticesGood};
+// The notices.
+ghost use Rattle.rules.specs.Words.{_≡_, _+_, _*_, _≤_};
+ghost use Rattle.rules.specs.Book.{elevators, filedNotices, noticeGood, noticeBlank, noticesGood};
 ghost use Rattle.rules.specs.Calls.{noticeFiled};
+use crate::keys;
 use rules::book::Book;
 use rules::book::Notice;
 use rules::limits::ELEVATOR_MOST;
+use rules::limits::ELEVATORS;
 use rules::limits::NOTICE_LOTS_MOST;
-use rules::limits::NOTICE_PLACES;
 use value::signed;
 
 // Whether a notice keeps its limits (01, Notice, 1).
@@ -26,7 +27,7 @@ fn notice_good(n: Notice, held: usize) -> bool
     lots <= (NOTICE_LOTS_MOST as i64)
 }
 
-fn notice_blank(n: Notice) -> bool
+pub fn notice_blank(n: Notice) -> bool
     ensures { λ r. ⌜ r ≡ noticeBlank n ⌝ }
 {
     if n.section != 0 {
@@ -39,78 +40,48 @@ fn notice_blank(n: Notice) -> bool
     signed::within(lots, 0)
 }
 
-// Whether a notice filed, from a place on, is of the section at the elevator.
-pub fn notice_filed(b: Book, section: u8, elevator: u8, from: usize) -> bool
+// Whether a notice filed is of the section at the elevator (01, Notice, 1).
+pub fn notice_filed(b: Book, section: u8, elevator: u8) -> bool
     requires { ⌜ b .filed ≤ 256 ⌝ }
-    ensures { λ r. ⌜ r ≡ noticeFiled section elevator (drop from (filedNotices b)) ⌝ }
+    ensures { λ r. ⌜ r ≡ noticeFiled section elevator (filedNotices b) ⌝ }
 {
     let filed = b.filed;
-    let mut i = from;
-    while i < filed {
-        let n = b.notices[i];
+    let mut at = 0;
+    while at < filed {
+        let n = b.notices[at];
         if section == n.section {
             if elevator == n.elevator {
                 return true;
             }
         }
-        i += 1;
+        at += 1;
     }
     false
 }
 
-fn notices_within(b: Book) -> bool
+// A section's number and an elevator's in one.
+fn key(section: u8, elevator: u8) -> u64
+    ensures { λ r. ⌜ r ≡ section * elevators + elevator ⌝ }
+{
+    let base = ELEVATORS as u64;
+    (section as u64) * base + (elevator as u64)
+}
+
+// Whether every notice filed keeps its limits, and no two are of one section at one elevator, in one walk over the notices (01, Notice, 1).
+pub fn notices_good(b: Book) -> bool
     requires { ⌜ b .filed ≤ 256 ⌝ }
-    ensures { λ r. ⌜ r ≡ every (noticeGood (b .held)) (filedNotices b) ⌝ }
+    ensures { λ r. ⌜ r ≡ noticesGood b ⌝ }
 {
     let filed = b.filed;
+    let mut places = [0; 256];
     let mut i = 0;
     while i < filed {
         let n = b.notices[i];
         if !notice_good(n, b.held) {
             return false;
         }
+        places[i] = key(n.section, n.elevator);
         i += 1;
     }
-    true
-}
-
-fn notices_apart(b: Book) -> bool
-    requires { ⌜ b .filed ≤ 256 ⌝ }
-    ensures { λ r. ⌜ r ≡ apart noticesAlike (filedNotices b) ⌝ }
-{
-    let filed = b.filed;
-    let mut i = 0;
-    while i < filed {
-        let n = b.notices[i];
-        if notice_filed(b, n.section, n.elevator, i + 1) {
-            return false;
-        }
-        i += 1;
-    }
-    true
-}
-
-// Whether every notice filed keeps its limits, and no two are of one section at one elevator (01, Notice, 1).
-pub fn notices_good(b: Book) -> bool
-    requires { ⌜ b .filed ≤ 256 ⌝ }
-    ensures { λ r. ⌜ r ≡ noticesGood b ⌝ }
-{
-    if !notices_within(b) {
-        return false;
-    }
-    notices_apart(b)
-}
-
-pub fn notices_blank(b: Book) -> bool
-    ensures { λ r. ⌜ r ≡ every noticeBlank (drop (b .filed) (b .notices)) ⌝ }
-{
-    let mut i = b.filed;
-    while i < NOTICE_PLACES {
-        let n = b.notices[i];
-        if !notice_blank(n) {
-            return false;
-        }
-        i += 1;
-    }
-    true
+    keys::apart(&places[..filed])
 }

@@ -1,7 +1,7 @@
 // The terms, the counts and the last session.
-ghost use Rattle.rules.specs.Words.{_≡_, between, true};
-ghost use Rattle.rules.specs.Book.{good, valueAt, stepsGood, factorGood, termsGood, placesGood, lastGood};
-use rules::book::Book;
+ghost use Rattle.rules.specs.Words.{_≡_, _≤_, leb, between, _and_};
+ghost use Rattle.rules.specs.Book.{sectionPlaces, noticePlaces, lotGood, stepsGood, factorGood, lastGood};
+ghost use Rattle.rules.specs.Value.{factor, valueOf};
 use rules::book::LastSession;
 use rules::limits::FACTOR_MOST;
 use rules::limits::LOT_MOST;
@@ -41,27 +41,23 @@ pub fn factor_good(w: u32, r: u32) -> bool
 }
 
 // Whether lot, W, R and K keep their limits (01, Opening, 1).
-pub fn terms_good(b: Book) -> bool
-    ensures { λ r. ⌜ r ≡ termsGood b ⌝ }
+pub fn terms_good(lot: u32, w: u32, r: u32) -> bool
+    ensures { λ x. ⌜ x ≡ (lotGood lot and stepsGood w r and factorGood w r) ⌝ }
 {
-    let lot = b.lot;
-    if !counted(lot.0, LOT_MOST) {
+    if !counted(lot, LOT_MOST) {
         return false;
     }
-    if !steps_good(b.w, b.r) {
+    if !steps_good(w, r) {
         return false;
     }
-    factor_good(b.w, b.r)
+    factor_good(w, r)
 }
 
-// The places there are is a matter of types: what is left to see is how many of them are held.
-pub fn places_good(b: Book) -> bool
-    ensures { λ r. ⌜ r ≡ placesGood b ⌝ }
+// The places there are is a matter of types: what is left to see is how many of them are in use (01, Book, 1).
+pub fn places_good(held: usize, filed: usize) -> bool
+    ensures { λ r. ⌜ r ≡ (leb held sectionPlaces and leb filed noticePlaces) ⌝ }
 {
-    if SECTION_PLACES < b.held {
-        return false;
-    }
-    b.filed <= NOTICE_PLACES
+    (held <= SECTION_PLACES) & (filed <= NOTICE_PLACES)
 }
 
 // Whether the last price fits the last session: 0 exactly where there was none (01, Book, 1).
@@ -75,11 +71,11 @@ pub fn last_good(last: LastSession, price: u32) -> bool
     }
 }
 
-// V of a price under the book's own terms (01, Value, 5).
-pub fn value_at(b: Book, price: u32) -> Kopecks
-    requires { ⌜ good b ≡ true ⌝ }
-    ensures { λ v. ⌜ v ≡ valueAt b price ⌝ }
+// V of a price under W and R (01, Value, 5).
+pub fn value_at(w: u32, r: u32, price: u32) -> Kopecks
+    requires { ⌜ factor w r ≤ 10_000_000 ⌝ }
+    ensures { λ v. ⌜ v ≡ valueOf (factor w r) price ⌝ }
 {
-    let k = value::factor(b.w, b.r);
+    let k = value::factor(w, r);
     value::value(k as u32, price)
 }

@@ -1,5 +1,5 @@
--- What is drawn of the notices of a short section, one after the other in filing order.
-use Rattle.numbers.proofs.Words.{ℕ, zero, suc, _+_, _-_, min, _≤_, _<_, arith, _≡_, refl, sym, ap, subst, _∙_, Bool, true, false, cond, List, [], _∷_, _++_, ⊎-elim, eqb, ltb, length, take, take-suc, take-length, natAbs, ltb-true, eqb-true, _and_, counted, entry, listed, less, gathered, total, many}
+-- What is drawn of the notices of a short section, one after the other in filing order (01, Expiry, 5.1).
+use Rattle.numbers.proofs.Words.{ℕ, zero, suc, _+_, _-_, min, _≤_, _<_, arith, _≡_, refl, sym, ap, subst, _∙_, Bool, true, false, cond, List, [], ⊎-elim, eqb, ltb, length, take, take-suc, take-length, natAbs, ltb-true, eqb-true, _and_, counted, entry, listed, less, gathered, total, many}
 use Rattle.rules.specs.declared.book.{Section.Section, Notice.Notice}
 use Rattle.numbers.proofs.Tests.{both, below-or-not}
 use Rattle.numbers.proofs.Sums.{naturals, total-last}
@@ -11,13 +11,17 @@ use Rattle.rules.specs.Expiry.Failing.{noticed}
 use Rattle.rules.specs.Expiry.Drawing.{drawn}
 
 -- the lots of one notice that count for a section
-abbrev counts : ℕ → Notice → ℕ
+abbrev pub counts : ℕ → Notice → ℕ
 counts i n = cond (eqb (n .section) i) (natAbs (n .lots .0)) 0
 
--- one notice more
-noticed-more : (ns : List Notice) (n : Notice) (i : ℕ) → noticed (ns ++ (n ∷ [])) i ≡ noticed ns i + counts i n
+-- no notice, and one notice more
+pub noticed-none : (i : ℕ) → noticed [] i ≡ 0
+unfolding noticed gathered
+noticed-none i = refl
+
+pub noticed-next : (ns : List Notice) (i k : ℕ) → k < length ns → noticed (take (suc k) ns) i ≡ noticed (take k ns) i + counts i (noticeOf ns k)
 unfolding noticed
-noticed-more ns n i = total-last _+_ 0 naturals (counts i) ns n
+noticed-next ns i k h = ap (λ (l : List Notice). noticed l i) (take-suc ns k blankNotice h) ∙ total-last _+_ 0 naturals (counts i) (take k ns) (noticeOf ns k)
 
 module _ (ss : List Section) (ns : List Notice) where
   -- the section and the lots of a notice, and the lots of a section's notices filed before it
@@ -32,13 +36,6 @@ module _ (ss : List Section) (ns : List Notice) where
 
   abbrev before : ℕ → ℕ → ℕ
   before i k = noticed (take k ns) i
-
-  before-none : (i : ℕ) → before i 0 ≡ 0
-  unfolding noticed gathered
-  before-none i = refl
-
-  before-next : (i k : ℕ) → k < length ns → before i (suc k) ≡ before i k + cond (eqb (of k) i) (lots k) 0
-  before-next i k h = ap (λ (l : List Notice). noticed l i) (take-suc ns k blankNotice h) ∙ noticed-more (take k ns) (noticeOf ns k) i
 
   before-all : (i : ℕ) → before i (length ns) ≡ noticed ns i
   before-all i = ap (λ (l : List Notice). noticed l i) (take-length ns)
@@ -69,15 +66,15 @@ module _ (ss : List Section) (ns : List Notice) where
     drawn-first : (i : ℕ) → short i ≡ true → (m : ℕ) → m ≤ length ns
         → total (listed m (λ (k : ℕ). cond (eqb (of k) i) (entry (drawn ss ns first) k) 0)) ≡ min (before i m) (entry first i)
     unfolding counted gathered
-    drawn-first i e zero h = omega (arith, before-none i)
+    drawn-first i e zero h = omega (arith, noticed-none i)
     drawn-first i e (suc m) h =
         sum-more _+_ 0 naturals m (λ (k : ℕ). cond (eqb (of k) i) (entry (drawn ss ns first) k) 0)
         ∙ ap (λ (x : ℕ). x + cond (eqb (of m) i) (entry (drawn ss ns first) m) 0) (drawn-first i e m (omega arith))
         ∙ go (eqb (of m) i) refl
       where
         go : (t : Bool) → eqb (of m) i ≡ t → min (before i m) (entry first i) + cond t (entry (drawn ss ns first) m) 0 ≡ min (before i (suc m)) (entry first i)
-        go true mine = omega (arith, drawn-short i m h (eqb-true (of m) i mine) e, rw mine at (before-next i m h))
-        go false other = omega (arith, rw other at (before-next i m h))
+        go true mine = omega (arith, drawn-short i m h (eqb-true (of m) i mine) e, rw mine at (noticed-next ns i m h))
+        go false other = omega (arith, rw other at (noticed-next ns i m h))
 
     -- all of them have all its first lots, where they reach that far
     pub drawn-section : (i : ℕ) → isShort (positionOf (sectionOf ss i)) ≡ true → entry first i ≤ noticed ns i
@@ -128,7 +125,7 @@ module _ (ss : List Section) (ns : List Notice) where
         let outside = ltb-true 0 (entry (rest near kept) k) (twice .1) in
         let has-near = drawn-short near i k h mine (ap short (sym mine) ∙ drawn-of-short near k inside) in
         let most : entry (drawn ss ns kept) k ≤ lots k = omega (arith, drawn-most kept k) in
-        (omega (arith, inside, has-near), omega (arith, outside, most, has-near, less-at (drawn ss ns kept) (drawn ss ns near) k, rw (its .0) at (before-next i k h)))
+        (omega (arith, inside, has-near), omega (arith, outside, most, has-near, less-at (drawn ss ns kept) (drawn ss ns near) k, rw (its .0) at (noticed-next ns i k h)))
 
     -- of the first m notices at most one, and that only where their lots go beyond the inside lots
     split-first : (i m : ℕ) → m ≤ length ns → many m (split i) ≤ min 1 (before i m - entry near i)
@@ -137,7 +134,7 @@ module _ (ss : List Section) (ns : List Notice) where
       where
         go : (t : Bool) → split i m ≡ t → many m (split i) ≤ min 1 (before i m - entry near i) → many m (split i) + one t ≤ min 1 (before i (suc m) - entry near i)
         go true e few = omega (arith, few, split-there i m h e)
-        go false e few = omega (arith, few, before-next i m h)
+        go false e few = omega (arith, few, noticed-next ns i m h)
 
     -- at most one notice of a section is drawn both inside and outside
     pub one-split : (i : ℕ) → many (length ns) (λ (k : ℕ). eqb (noticeOf ns k .section) i and ltb 0 (entry (drawn ss ns near) k) and ltb 0 (entry (rest near kept) k)) ≤ 1

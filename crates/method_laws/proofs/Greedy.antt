@@ -245,7 +245,3 @@ module _ (ss : List Section) (lots : List ℕ) where
       eqb (sectionOf ss i .settlement) c and ltb 0 (entry (taken ss (inOrder sooner (lowerSectionCode ss) lots (length ss)) lots caps need) i) and ltb (entry (taken ss (inOrder sooner (lowerSectionCode ss) lots (length ss)) lots caps need) i) (entry lots i))
       ≤ 1
   one-part sooner caps need c enough = omega (arith, taken-outcome sooner caps need .parts enough c, none-in-part c)
-
-  -- a section that has nothing gives nothing
-  pub given-none : (sooner : ℕ → ℕ → Bool) (caps : List ℕ) (need i : ℕ) → entry lots i ≡ 0 → entry (taken ss (inOrder sooner (lowerSectionCode ss) lots (length ss)) lots caps need) i ≡ 0
-  given-none sooner caps need i none = omega (arith, given sooner caps need .each i, none)

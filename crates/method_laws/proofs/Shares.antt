@@ -1,12 +1,12 @@
 -- What sections give one after the other is what the definitions say of each by itself.
-use Rattle.numbers.proofs.Words.{ℕ, _+_, _-_, _≤_, _<_, min, le-trans, arith, _≡_, refl, sym, ap, subst, _∙_, Bool, true, false, cond, _||_, _&&_, List, [], _∷_, _++_, append-assoc, map, _⊎_, inl, inr, ⊎-elim, eqb, ltb, length, set, replicate, length-set, length-replicate, getD-set-same, getD-set-other, List·getD-map, ltb-true, ltb-false, eqb-true, lt-ltb, le-ltb, eq-eqb, ℤ, pos, natAbs, _and_, entry, entryℤ, counted, listed, gathered, total}
+use Rattle.numbers.proofs.Words.{ℕ, _+_, _-_, _≤_, _<_, min, le-trans, arith, _≡_, refl, sym, ap, subst, _∙_, Bool, true, false, cond, List, [], _∷_, _++_, append-assoc, map, _⊎_, inl, inr, ⊎-elim, eqb, ltb, length, set, replicate, length-set, length-replicate, getD-set-same, getD-set-other, List·getD-map, ltb-true, ltb-false, eqb-true, lt-ltb, le-ltb, eq-eqb, ℤ, pos, natAbs, _and_, entry, entryℤ, listed, gathered, total}
 use Rattle.rules.specs.declared.book.{Section.Section}
 use Rattle.numbers.proofs.Sums.{naturals, total-last}
 use Rattle.numbers.proofs.Under.{under-two}
 use Rattle.numbers.proofs.Entries.{entry-part, off-entry, off-total}
 use Rattle.numbers.proofs.Ranges.{chosen-yes, chosen-no, listed-length, listed-at, listed-same, listed-known, listed-most, sum-same}
 use Rattle.numbers.proofs.Orders.{Ranks, ordered-ahead, times, Once, first-below, rest-once, ordered-once, ordered-there}
-use Rattle.numbers.proofs.Tests.{and-left, and-right, or-cases, or-left, or-right, below-or-not, same-or-not}
+use Rattle.numbers.proofs.Tests.{and-left, and-right, or-cases, or-left, below-or-not, same-or-not}
 use Rattle.rules.specs.Book.{positionOf, sectionOf}
 use Rattle.rules.specs.Expiry.{opposed, chosen, lowerSectionCode, earlier, share, sharesInCodes}
 use Rattle.rules.specs.Expiry.Codes.{givenInCodes}

@@ -1,5 +1,5 @@
 -- Steps 1 to 4: what is delivered is even over all codes, what stays inside is even in each code, and what goes outside is even.
-use Rattle.numbers.proofs.Words.{ℕ, _+_, _-_, _≤_, _<_, arith, _≡_, refl, sym, ap, ap₂, subst, _∙_, Bool, true, false, cond, false≢true, and-true, and-false, or-false, List, [], map, ⊎-elim, ltb, length, List·getD-map, ℤ, pos, negsuc, natAbs, _+ℤ_, _-ℤ_, lt-ltb, le-ltb, ltb-true, ltb-false, listed, entry, entryℤ, less, total, totalℤ}
+use Rattle.numbers.proofs.Words.{ℕ, _+_, _-_, _≤_, _<_, arith, _≡_, refl, sym, ap, ap₂, subst, _∙_, Bool, true, false, cond, false≢true, and-true, and-false, or-false, List, [], map, ⊎-elim, ltb, length, List·getD-map, ℤ, pos, negsuc, natAbs, _+ℤ_, _-ℤ_, lt-ltb, le-ltb, ltb-true, ltb-false, listed, entry, less, total, totalℤ}
 use Rattle.rules.specs.declared.book.{Section.Section, Notice.Notice}
 use Rattle.numbers.proofs.Whole.{plus, minus, ext, sum, difference, difference-size, difference-above, difference-below}
 use Rattle.numbers.proofs.Sums.{naturals, wholes}
@@ -16,7 +16,7 @@ use Rattle.rules.specs.Expiry.Call.{delivered}
 use Rattle.method_laws.proofs.Shares.{Told, in-codes-within, across-within}
 use Rattle.method_laws.proofs.Greedy.{Given}
 use Rattle.method_laws.proofs.Across.{across-given, closed-even}
-use Rattle.method_laws.proofs.Sides.{sideOf, allOf, Within, lots-less, lots-most, side-classes, net-sides, on-side, chosen-within}
+use Rattle.method_laws.proofs.Sides.{sideOf, allOf, Within, lots-less, lots-most, side-classes, net-sides, on-side}
 
 -- what one number has over another, where it has more
 over-other : (a b : ℕ) → cond (ltb b a) ((b - a) + (a - b)) 0 ≡ a - b

@@ -1,5 +1,6 @@
 -- A number as a key: two numbers in one, bytes in one, and entries of a list that are alike where their keys are equal.
-use Rattle.numbers.proofs.Words.{ℕ, suc, _+_, _*_, _≤_, _<_, _^_, pow-suc, mul-le-mul, arith, _≡_, refl, sym, ap, ap₂, subst, _∙_, ⊎-elim, Bool, true, false, not, _&&_, _||_, List, [], _∷_, map, ltb, eqb, length, lt-ltb, le-ltb, eq-eqb, ne-eqb, eqb-true, eqb-false, every, some, apart, same, before, bigEndian}
+use Rattle.numbers.proofs.Words.{ℕ, suc, _+_, _*_, _≤_, _<_, _^_, pow-suc, mul-le-mul, arith, _≡_, refl, sym, ap, ap₂, subst, _∙_, ⊎-elim, Bool, true, false, not, _&&_, _||_, List, [], _∷_, _++_, map, ltb, eqb, length, length-map, set, take, drop, take-at, take-all, lt-ltb, le-ltb, eq-eqb, ne-eqb, eqb-true, eqb-false, every, some, apart, same, before, bigEndian}
+use Rattle.numbers.proofs.Lists.{Has, every-next, every-stop, every-end, written-next, written-length}
 use Rattle.numbers.proofs.Little.{Bytes}
 use Rattle.numbers.proofs.Tests.{and-left, and-right, together, fails-left, fails-right, ltb-as, below-or-not, same-or-not}
 
@@ -108,3 +109,33 @@ module _ {A : Type 0} (p : A → Bool) (alike : A → A → Bool) (key : A → �
       let here = and-left (p x) (every p xs) e in
       let rest = and-right (p x) (every p xs) e in
       ap₂ (λ (s t : Bool). not s && t) (some-keys x here xs rest) (apart-keys xs rest)
+
+-- what a walk over xs keeps that tests each entry and writes its key into a column
+pub record Walked {A : Type 0} (p : A → Bool) (key : A → ℕ) (xs : List A) (was now : List ℕ) (i : ℕ) : Type 0 where
+  pub within : i ≤ length xs
+  pub tested : every p xs ≡ every p (drop i xs)
+  pub keys : now ≡ map key (take i xs) ++ drop i was
+
+pub walked-none : {A : Type 0} (p : A → Bool) (key : A → ℕ) (xs : List A) (was : List ℕ) → Walked p key xs was was 0
+walked-none p key xs was = record { within = omega arith; tested = refl; keys = refl }
+
+module _ {A : Type 0} {p : A → Bool} {key : A → ℕ} {xs : List A} {was now : List ℕ} {i : ℕ} (walked : Walked p key xs was now i) where
+  pub walked-length : i ≤ length was → length now ≡ length was
+  walked-length h = ap length (walked .keys) ∙ written-length key xs was i (walked .within) h
+
+  pub walked-stop : {x : A} → Has xs i x → p x ≡ false → every p xs ≡ false
+  walked-stop here e = walked .tested ∙ every-stop here p e
+
+  pub walked-next : {x : A} → Has xs i x → p x ≡ true → i < length was → (k : ℕ) → k ≡ key x → Walked p key xs was (set now i k) (i + 1)
+  walked-next here e h k is =
+      record { within = omega (arith, here .below); tested = walked .tested ∙ every-next here p e; keys = ap₂ (λ (l : List ℕ) (j : ℕ). set l i j) (walked .keys) is ∙ written-next key was here h }
+
+  -- at the end every entry has passed, and the column's front is the keys
+  module _ (past : length xs ≤ i) where
+    pub walked-all : every p xs ≡ true
+    walked-all = walked .tested ∙ every-end xs i past p
+
+    pub walked-keys : (n : ℕ) → length xs ≡ n → take n now ≡ map key xs
+    walked-keys n e =
+        let all : take i xs ≡ xs = take-all i xs past in
+        ap (take n) (walked .keys) ∙ take-at (map key (take i xs)) (drop i was) n (length-map (take i xs) key ∙ ap length all ∙ e) ∙ ap (map key) all

@@ -57,6 +57,10 @@ pub listed-read : {A B : Type 0} (f : A → B) (xs : List A) (d : A) → listed 
 listed-read f xs d = sym (map-map f (λ (i : ℕ). getD xs i d) (counted 0 (length xs))) ∙ ap (map f) (listed-entries xs d)
 
 module _ {A : Type 0} (n : ℕ) (f : ℕ → A) where
+  -- one entry more
+  pub listed-more : listed (suc n) f ≡ listed n f ++ (f n ∷ [])
+  listed-more = ap (map f) (counted-more 0 n) ∙ map-append f (counted 0 n) ((0 + n) ∷ []) ∙ ap (λ (j : ℕ). listed n f ++ (f j ∷ [])) (zero-add n)
+
   pub listed-length : length (listed n f) ≡ n
   listed-length = length-map (counted 0 n) f ∙ counted-length 0 n
 

@@ -9,7 +9,7 @@ pub use lib.IntN.{*ℤ-comm, *ℤ-negsuc, +ℤ-assoc, +ℤ-comm, +ℤ-idl, +ℤ-
 pub use borrow.Author.Tests.{eq-eqb, eqb-false, eqb-true, le-leb, le-ltb, leb-false, leb-true, lt-leb, lt-ltb, ltb-false, ltb-true, ne-eqb, not-false, not-true}
 pub use native.Mathlib.Omega.{arith}
 pub use borrow.Author.Needs.{needs}
-pub use lib.Seq.{drop-at, drop-cons, drop-drop, drop-set-lt, getD-append-add, getD-at, getD-drop, getD-set-other, getD-set-same, getD-take, length-front, length-take-le, lt-length-set, map-set-same, paste, paste-suc, paste-zero, set-at, set-getD, set-out, set-split, take-add, take-all, take-append-seam, take-at, take-length, take-set-lt, take-suc, take-suc-set, take-take}
+pub use lib.Seq.{drop-at, drop-cons, drop-drop, drop-set-lt, getD-append-add, getD-at, getD-drop, getD-set-other, getD-set-same, getD-take, length-front, length-paste, length-take-le, lt-length-set, map-set-same, paste, paste-suc, paste-zero, set-at, set-getD, set-out, set-split, take-add, take-all, take-append-seam, take-at, take-length, take-set-lt, take-suc, take-suc-set, take-take}
 pub use lib.Dec.{T, eqb, leb, leb·suc-suc, lit<, ltb}
 pub use mir.Val.{Fits, SFits, hbits, ofZ, toZ}
 pub use mathlib.Core.Logic.{_⊎_, inl, inr, ⊎-elim}

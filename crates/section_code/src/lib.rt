@@ -49,7 +49,13 @@ pub fn key(code: [u8; 7]) -> u64
     ensures { λ r. ⌜ r < 72_057_594_037_927_936 ⌝ }
 {
     joined(
-        code[0], code[1], code[2], code[3], code[4], code[5], code[6],
+        code[0],
+        code[1],
+        code[2],
+        code[3],
+        code[4],
+        code[5],
+        code[6],
     )
 }
 

@@ -5,7 +5,7 @@ use Rattle.value.proofs.Laws.{value-within}
 use Rattle.rules.specs.Book.{sectionAt, sectionOfNoughts, valueAt}
 use Rattle.rules.specs.Calls.{settled, marginOf, margins, afterSession}
 use Rattle.book_laws.proofs.Accepted.{NewSession, session}
-use Rattle.book_laws.proofs.Good.{Good, test}
+use Rattle.book_laws.proofs.Good.{Good}
 use Rattle.book_laws.proofs.Held.{held-good, held-basis}
 use Rattle.call_session.proofs.after_session.Statement.{statement}
 use Rattle.call_session.proofs.after_session.Tie as tie
@@ -52,7 +52,7 @@ ended : (c : tie.After-loop Inv-loop μ-loop) → c .before .loop .i ≡ c .befo
 ended c = omega arith
 
 value-at-requires : tie.Need-value-at-requires Inv-loop μ-loop
-value-at-requires c κs = test _ (accepted c .book)
+value-at-requires c κs = book c .k .most
 
 loop-holds : tie.Need-loop-holds Inv-loop μ-loop
 loop-holds c = (search needs, refl, refl)
@@ -66,8 +66,8 @@ element-copy-out-s c = place c
 margin-requires : tie.Need-margin-requires Inv-loop μ-loop
 margin-requires c κs = ((held-good _ (book (c .before .before .before .before .before)) _ (c .before .loop-test .taken) .position, held-basis _ (book (c .before .before .before .before .before)) _ (c .before .loop-test .taken)), value-small (c .before .before .before .before))
 
-mul-t17 : tie.Need-mul-t17 Inv-loop μ-loop
-mul-t17 c = omega (arith, place (c .before .before))
+mul-t18 : tie.Need-mul-t18 Inv-loop μ-loop
+mul-t18 c = omega (arith, place (c .before .before))
 
 slice-set-from-margins : tie.Need-slice-set-from-margins Inv-loop μ-loop
 slice-set-from-margins c = margins-place (c .before .before)
@@ -125,7 +125,7 @@ after-session-spec =
     mul-s
     element-copy-out-s
     margin-requires
-    mul-t17
+    mul-t18
     slice-set-from-margins
     settled-requires
     mul-sections

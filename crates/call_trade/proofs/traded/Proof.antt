@@ -4,7 +4,7 @@ use Rattle.value.proofs.Laws.{value-within}
 use Rattle.rules.specs.Book.{sectionAt, valueAt}
 use Rattle.rules.specs.Calls.{moved, traded}
 use Rattle.book_laws.proofs.Accepted.{NewTrade, trade}
-use Rattle.book_laws.proofs.Good.{Good, test}
+use Rattle.book_laws.proofs.Good.{Good}
 use Rattle.book_laws.proofs.Held.{held-good, held-basis}
 use Rattle.book_laws.proofs.Lots.{bought, bought-small, sold, sold-fits, sold-small}
 use Rattle.call_trade.proofs.traded.Statement.{statement}
@@ -41,7 +41,7 @@ selling c =
     ∙ ap₂ (λ (z : ℤ) (v : Kopecks). moved (sectionAt (c .before .before .before .before .before .args .t1) (c .before .before .before .before .before .args .seller)) (record { 0 = z }) v) (sold _ (lots-most (c .before .before .before .before .before))) (c .before .before .before .before .value-at .ensures)
 
 value-at-requires : tie.Need-value-at-requires
-value-at-requires c κs = test _ (accepted c .party .book)
+value-at-requires c κs = book c .k .most
 
 mul-s : tie.Need-mul-s
 mul-s c = search needs
@@ -55,17 +55,17 @@ mul-t c = search needs
 element-copy-out-t : tie.Need-element-copy-out-t
 element-copy-out-t c = seller-place (c .before .before)
 
-cast-t22 : tie.Need-cast-t22
-cast-t22 c = search needs
+cast-t23 : tie.Need-cast-t23
+cast-t23 c = search needs
 
 moved-requires : tie.Need-moved-requires
 moved-requires c κs = ((held-good _ (book (c .before .before .before)) _ (accepted (c .before .before .before) .party .buyer-known) .position, held-basis _ (book (c .before .before .before)) _ (accepted (c .before .before .before) .party .buyer-known)), (bought-small _ (lots-most (c .before .before .before)), value-small (c .before .before)))
 
-cast-t22-2 : tie.Need-cast-t22-2
-cast-t22-2 c = search needs
+cast-t23-2 : tie.Need-cast-t23-2
+cast-t23-2 c = search needs
 
-sub-t24 : tie.Need-sub-t24
-sub-t24 c = sold-fits _ (lots-most (c .before .before .before .before))
+sub-t25 : tie.Need-sub-t25
+sub-t25 c = sold-fits _ (lots-most (c .before .before .before .before))
 
 moved-requires-2 : tie.Need-moved-requires-2
 moved-requires-2 c κs = ((held-good _ (book (c .before .before .before .before)) _ (accepted (c .before .before .before .before) .party .seller-known) .position, held-basis _ (book (c .before .before .before .before)) _ (accepted (c .before .before .before .before) .party .seller-known)), (sold-small _ (lots-most (c .before .before .before .before)), value-small (c .before .before .before)))
@@ -98,10 +98,10 @@ traded-spec =
     element-copy-out-s
     mul-t
     element-copy-out-t
-    cast-t22
+    cast-t23
     moved-requires
-    cast-t22-2
-    sub-t24
+    cast-t23-2
+    sub-t25
     moved-requires-2
     mul-buying
     element-set-from-buying

@@ -37,8 +37,8 @@ loop-less c =
     let read = c .before .before .before .before .before in
     let start = read .before .before .before .before in
     let i = read .before .before .loop .i in
-    let found = sym (ap (λ (r : Read). r .found) (read .event .ensures)) ∙ c .before .before .before .found .given .1 in
-    let next = ap (λ (r : Read). r .next) (read .event .ensures) ∙ values-next (now (start .args .file)) i _ found in
+    let found = sym (ap (λ (r : Read). r .found) (read .event .ensures .0)) ∙ c .before .before .before .found .given .1 in
+    let next = ap (λ (r : Read). r .next) (read .event .ensures .0) ∙ values-next (now (start .args .file)) i _ found in
     omega (arith, next)
 
 loop-again : tie.Need-loop-again Inv-loop μ-loop

@@ -9,18 +9,18 @@ use Rattle.judge.proofs.notices.notice_filed.Statement.{statement}
 use Rattle.judge.proofs.notices.notice_filed.Tie as tie
 
 abbrev Inv-loop : tie.InvT-loop
-Inv-loop section elevator from b filed i₀ i = noticeFiled section elevator (drop from (filedNotices b)) ≡ noticeFiled section elevator (drop i (filedNotices b))
+Inv-loop section elevator b filed at₀ at = noticeFiled section elevator (filedNotices b) ≡ noticeFiled section elevator (drop at (filedNotices b))
 
 abbrev μ-loop : tie.MeasureT-loop
-μ-loop section elevator from b filed i₀ i = filed - i
+μ-loop section elevator b filed at₀ at = filed - at
 
 places : (c : tie.Start Inv-loop μ-loop) → length (c .args .t1 .notices) ≡ 256
 places c = search (needs, length-mapped)
 
-here : (c : tie.In-loop Inv-loop μ-loop) → Has (filedNotices (c .before .before .args .t1)) (c .before .loop .i) (noticeAt (c .before .before .args .t1) (c .before .loop .i))
-here c = has-notice (c .before .before .args .t1) (places (c .before .before)) (search needs) (c .before .loop .i) (c .loop-test .taken)
+here : (c : tie.In-loop Inv-loop μ-loop) → Has (filedNotices (c .before .before .args .t1)) (c .before .loop .at) (noticeAt (c .before .before .args .t1) (c .before .loop .at))
+here c = has-notice (c .before .before .args .t1) (places (c .before .before)) (search needs) (c .before .loop .at) (c .loop-test .taken)
 
-past : (c : tie.After-loop Inv-loop μ-loop) → length (filedNotices (c .before .before .args .t1)) ≤ c .before .loop .i
+past : (c : tie.After-loop Inv-loop μ-loop) → length (filedNotices (c .before .before .args .t1)) ≤ c .before .loop .at
 past c = omega (arith, filed-length (c .before .before .args .t1) (places (c .before .before)) (search needs))
 
 abbrev is : tie.Start Inv-loop μ-loop → Notice → Bool
@@ -38,18 +38,18 @@ element-copy-out-n c = search needs
 returns : tie.Need-returns Inv-loop μ-loop
 returns c = sym (c .before .before .before .before .before .before .loop .inv ∙ some-stop (here (c .before .before .before .before .before)) (is (c .before .before .before .before .before .before .before)) (together (eq-eqb _ _ (c .before .before .if1 .taken)) (eq-eqb _ _ (c .if2 .taken))))
 
-add-i : tie.Need-add-i Inv-loop μ-loop
-add-i c = search needs
+add-at : tie.Need-add-at Inv-loop μ-loop
+add-at c = search needs
 
 loop-less : tie.Need-loop-less Inv-loop μ-loop
 loop-less c = omega arith
 
 loop-again : tie.Need-loop-again Inv-loop μ-loop
 loop-again c = c .before .before .before .before .loop .inv ∙ some-next (here (c .before .before .before)) (is (c .before .before .before .before .before))
-    (⊎-elim (λ w. fails-right (eqb (c .before .before .before .before .before .args .section) (noticeAt (c .before .before .before .before .before .args .t1) (c .before .before .before .before .loop .i) .section)) _ (ne-eqb _ _ (w .2 .left))) (λ w. fails-left _ _ (ne-eqb _ _ (w .left))) (c .if1 .came))
+    (⊎-elim (λ w. fails-right (eqb (c .before .before .before .before .before .args .section) (noticeAt (c .before .before .before .before .before .args .t1) (c .before .before .before .before .loop .at) .section)) _ (ne-eqb _ _ (w .2 .left))) (λ w. fails-left _ _ (ne-eqb _ _ (w .left))) (c .if1 .came))
 
 returns-2 : tie.Need-returns-2 Inv-loop μ-loop
-returns-2 c = sym (c .before .loop .inv ∙ some-end _ (c .before .loop .i) (past c) (is (c .before .before)))
+returns-2 c = sym (c .before .loop .inv ∙ some-end _ (c .before .loop .at) (past c) (is (c .before .before)))
 
 pub notice-filed-spec : {M : Type 1} → statement M
 notice-filed-spec =
@@ -61,7 +61,7 @@ notice-filed-spec =
     mul-n
     element-copy-out-n
     returns
-    add-i
+    add-at
     loop-less
     loop-again
     returns-2)

@@ -8,18 +8,18 @@ use Rattle.judge.proofs.sections.code_held.Statement.{statement}
 use Rattle.judge.proofs.sections.code_held.Tie as tie
 
 abbrev Inv-loop : tie.InvT-loop
-Inv-loop code from b held i₀ i = sectionCodeHeld code (drop from (heldSections b)) ≡ sectionCodeHeld code (drop i (heldSections b))
+Inv-loop code b held at₀ at = sectionCodeHeld code (heldSections b) ≡ sectionCodeHeld code (drop at (heldSections b))
 
 abbrev μ-loop : tie.MeasureT-loop
-μ-loop code from b held i₀ i = held - i
+μ-loop code b held at₀ at = held - at
 
 places : (c : tie.Start Inv-loop μ-loop) → length (c .args .t1 .sections) ≡ 128
 places c = search (needs, length-mapped)
 
-here : (c : tie.In-loop Inv-loop μ-loop) → Has (heldSections (c .before .before .args .t1)) (c .before .loop .i) (sectionAt (c .before .before .args .t1) (c .before .loop .i))
-here c = has-section (c .before .before .args .t1) (places (c .before .before)) (search needs) (c .before .loop .i) (c .loop-test .taken)
+here : (c : tie.In-loop Inv-loop μ-loop) → Has (heldSections (c .before .before .args .t1)) (c .before .loop .at) (sectionAt (c .before .before .args .t1) (c .before .loop .at))
+here c = has-section (c .before .before .args .t1) (places (c .before .before)) (search needs) (c .before .loop .at) (c .loop-test .taken)
 
-past : (c : tie.After-loop Inv-loop μ-loop) → length (heldSections (c .before .before .args .t1)) ≤ c .before .loop .i
+past : (c : tie.After-loop Inv-loop μ-loop) → length (heldSections (c .before .before .args .t1)) ≤ c .before .loop .at
 past c = omega (arith, held-length (c .before .before .args .t1) (places (c .before .before)) (search needs))
 
 loop-holds : tie.Need-loop-holds Inv-loop μ-loop
@@ -37,8 +37,8 @@ same-code-requires c κs = search needs
 returns : tie.Need-returns Inv-loop μ-loop
 returns c = sym (c .before .before .before .before .before .loop .inv ∙ some-stop (here (c .before .before .before .before)) (λ (s : Section). same (c .before .before .before .before .before .before .args .code) (s .code)) (sym (c .before .same-code .ensures) ∙ c .if1 .taken))
 
-add-i : tie.Need-add-i Inv-loop μ-loop
-add-i c = search needs
+add-at : tie.Need-add-at Inv-loop μ-loop
+add-at c = search needs
 
 loop-less : tie.Need-loop-less Inv-loop μ-loop
 loop-less c = omega arith
@@ -47,7 +47,7 @@ loop-again : tie.Need-loop-again Inv-loop μ-loop
 loop-again c = c .before .before .before .before .before .loop .inv ∙ some-next (here (c .before .before .before .before)) (λ (s : Section). same (c .before .before .before .before .before .before .args .code) (s .code)) (sym (c .before .same-code .ensures) ∙ c .if1 .left)
 
 returns-2 : tie.Need-returns-2 Inv-loop μ-loop
-returns-2 c = sym (c .before .loop .inv ∙ some-end _ (c .before .loop .i) (past c) (λ (s : Section). same (c .before .before .args .code) (s .code)))
+returns-2 c = sym (c .before .loop .inv ∙ some-end _ (c .before .loop .at) (past c) (λ (s : Section). same (c .before .before .args .code) (s .code)))
 
 pub code-held-spec : {M : Type 1} → statement M
 code-held-spec =
@@ -60,7 +60,7 @@ code-held-spec =
     element-copy-out-s
     same-code-requires
     returns
-    add-i
+    add-at
     loop-less
     loop-again
     returns-2)

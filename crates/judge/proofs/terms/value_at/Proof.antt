@@ -1,6 +1,5 @@
 use Rattle.numbers.proofs.Words.{ℕ, arith, ap, _∙_, needs}
 use Rattle.rules.specs.Value.{valueOf}
-use Rattle.book_laws.proofs.Good.{facts}
 use Rattle.judge.proofs.terms.value_at.Statement.{statement}
 use Rattle.judge.proofs.terms.value_at.Tie as tie
 
@@ -8,7 +7,7 @@ factor-requires : tie.Need-factor-requires
 factor-requires c κs = search needs
 
 cast-value : tie.Need-cast-value
-cast-value c = omega (arith, c .factor .ensures, facts _ (c .before .pre) .k .most)
+cast-value c = omega (arith, c .factor .ensures, c .before .pre)
 
 value-requires : tie.Need-value-requires
 value-requires c κs = search needs

@@ -1,0 +1,58 @@
+use Rattle.numbers.proofs.Words.{needs, arith, zero-add, now}
+use Rattle.listing.specs.Columns.{listing}
+use Rattle.listing.proofs.Laws.Laid.{laid-over}
+use Rattle.listing.proofs.Laws.Listing.{parts, listing-parts}
+use Rattle.listing.proofs.Laws.Parts.{Begun, begun, room-next, then, finished}
+use Rattle.listing.proofs.accepted.Statement.{statement}
+use Rattle.listing.proofs.accepted.Tie as tie
+
+start : (c : tie.After-laid) → Begun (now (c .before .before .before .before .before .before .before .before .before .before .args .out)) 0 (listing (c .before .before .before .before .before .before .before .before .before .before .args .b) (c .before .before .before .before .before .before .before .before .before .before .args .lines) (now (c .before .before .before .before .before .before .before .before .before .before .args .buyers)) (now (c .before .before .before .before .before .before .before .before .before .before .args .elevators)) (now (c .before .before .before .before .before .before .before .before .before .before .args .sellers)) (now (c .before .before .before .before .before .before .before .before .before .before .args .lots)) (now (c .before .before .before .before .before .before .before .before .before .before .args .delivered)) (now (c .before .before .before .before .before .before .before .before .before .before .args .terminated)) (now (c .before .before .before .before .before .before .before .before .before .before .args .sums))) (now (c .before .before .before .before .before .before .before .before .before .before .args .out)) 0 (parts (c .before .before .before .before .before .before .before .before .before .before .args .b) (c .before .before .before .before .before .before .before .before .before .before .args .lines) (now (c .before .before .before .before .before .before .before .before .before .before .args .buyers)) (now (c .before .before .before .before .before .before .before .before .before .before .args .elevators)) (now (c .before .before .before .before .before .before .before .before .before .before .args .sellers)) (now (c .before .before .before .before .before .before .before .before .before .before .args .lots)) (now (c .before .before .before .before .before .before .before .before .before .before .args .delivered)) (now (c .before .before .before .before .before .before .before .before .before .before .args .terminated)) (now (c .before .before .before .before .before .before .before .before .before .before .args .sums)) (c .laid .last .1 .0))
+start c =
+    let s = c .before .before .before .before .before .before .before .before .before .before in
+    begun _ 0 _ _ (listing-parts (s .args .b) _ _ _ _ _ _ _ _ (c .laid .last .1 .0) (c .laid .ensures) (s .pre .0 .0) (s .pre .1 .1 .1 .0)) (rw zero-add (s .pre .1 .1 .1 .1))
+
+slice-aggregate-laid : tie.Need-slice-aggregate-laid
+slice-aggregate-laid c = search needs
+
+laid-requires : tie.Need-laid-requires
+laid-requires c κs = search needs
+
+head-requires : tie.Need-head-requires
+head-requires c κs = omega (arith, room-next (start (c .before .before)))
+
+slice-aggregate-lines : tie.Need-slice-aggregate-lines
+slice-aggregate-lines c = search needs
+
+lines-requires : tie.Need-lines-requires
+lines-requires c κs =
+    let s = c .before .before .before .before .before .before .before .before .before .before .before .before .before .before .before .before .before in
+    ((omega (arith, c .before .before .before .before .before .before .before .laid .kept .1 .0), s .pre .0 .1), (s .pre .1 .0, (s .pre .1 .1 .1 .0, room-next (then (start (c .before .before .before .before .before .before .before)) (c .before .before .before .before .head .ensures)))))
+
+slice-aggregate-sections : tie.Need-slice-aggregate-sections
+slice-aggregate-sections c = search needs
+
+sections-requires : tie.Need-sections-requires
+sections-requires c κs =
+    let s = c .before .before .before .before .before .before .before .before .before .before .before .before .before .before .before .before .before .before .before .before .before .before in
+    let lists = s .pre .1 .1 .0 in
+    ((omega (arith, c .before .before .before .before .before .before .before .before .before .before .before .before .laid .kept .1 .0), s .pre .0 .0, lists .0, lists .1, lists .2), room-next (then (then (start (c .before .before .before .before .before .before .before .before .before .before .before .before)) (c .before .before .before .before .before .before .before .before .before .head .ensures)) (c .before .before .before .before .lines .ensures)))
+
+same-length : tie.Need-same-length
+same-length c = search needs
+
+returns : tie.Need-returns
+returns c = laid-over _ (finished (then (then (then (start (c .before .before .before .before .before .before .before .before .before .before .before .before .before .before .before)) (c .before .before .before .before .before .before .before .before .before .before .before .before .head .ensures)) (c .before .before .before .before .before .before .before .lines .ensures)) (c .before .before .sections .ensures)))
+
+pub accepted-spec : {M : Type 1} → statement M
+accepted-spec =
+    tie.close
+    (tie.spec
+    slice-aggregate-laid
+    laid-requires
+    head-requires
+    slice-aggregate-lines
+    lines-requires
+    slice-aggregate-sections
+    sections-requires
+    same-length
+    returns)

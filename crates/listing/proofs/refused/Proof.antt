@@ -1,0 +1,43 @@
+use Rattle.numbers.proofs.Words.{needs, zero-add, [], _∷_, now}
+use Rattle.numbers.specs.Text.{bytes, decimal}
+use Rattle.listing.specs.Columns.{refusedRow}
+use Rattle.listing.proofs.Laws.Laid.{laid-over}
+use Rattle.listing.proofs.Laws.Parts.{Begun, begun-row, ended, room-next, then, finished}
+use Rattle.listing.proofs.refused.Statement.{statement}
+use Rattle.listing.proofs.refused.Tie as tie
+
+start : (c : tie.Start) → Begun (now (c .args .out)) 0 (refusedRow (c .args .number) (c .args .place)) (now (c .args .out)) 0 (ended (bytes "refused" ∷ decimal (c .args .number) ∷ decimal (c .args .place) ∷ []))
+start c = begun-row _ 0 _ (rw zero-add (c .pre))
+
+slice-aggregate-word : tie.Need-slice-aggregate-word
+slice-aggregate-word c = search needs
+
+word-requires : tie.Need-word-requires
+unfolding bytes
+word-requires c κs = room-next (start (c .before .before .before))
+
+number-requires : tie.Need-number-requires
+unfolding bytes
+number-requires c κs = room-next (then (start (c .before .before .before .before .before .before .before)) (c .before .before .before .word .ensures))
+
+number-requires-2 : tie.Need-number-requires-2
+unfolding bytes
+number-requires-2 c κs = room-next (then (then (start (c .before .before .before .before .before .before .before .before .before .before .before)) (c .before .before .before .before .before .before .before .word .ensures)) (c .before .before .before .number .ensures))
+
+same-length : tie.Need-same-length
+same-length c = search needs
+
+returns : tie.Need-returns
+unfolding bytes
+returns c = laid-over _ (finished (then (then (then (start (c .before .before .before .before .before .before .before .before .before .before .before .before .before .before)) (c .before .before .before .before .before .before .before .before .before .before .word .ensures)) (c .before .before .before .before .before .before .number .ensures)) (c .before .before .number2 .ensures)))
+
+pub refused-spec : {M : Type 1} → statement M
+refused-spec =
+    tie.close
+    (tie.spec
+    slice-aggregate-word
+    word-requires
+    number-requires
+    number-requires-2
+    same-length
+    returns)

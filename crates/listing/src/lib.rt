@@ -1,0 +1,62 @@
+// What the program prints, written into a lent buffer.
+ghost use Rattle.rules.specs.Words.{ℕ, _≡_, _≤_, _<_, length, entry, over};
+ghost use Rattle.listing.specs.Columns.{refusedRow, listing};
+use rules::book::Book;
+
+mod codes;
+mod digits;
+mod rows;
+mod text;
+
+// The listing of an expired book, its register and its lists: how many lines, a row for each line, a row for each section. It answers how
+// many bytes were written; later ones remain (01, Program, 1 and 3; 01, Forms, 7; 01, Bound, a).
+pub fn accepted(
+    b: Book,
+    lines: usize,
+    buyers: &[u8],
+    elevators: &[u8],
+    sellers: &[u8],
+    lots: &[u32],
+    delivered: &[u32],
+    terminated: &[u32],
+    sums: &[i64],
+    out: &mut [u8],
+) -> usize
+    requires { ⌜ (b .held ≤ 128) × (b .lot .0 ≤ 1_000) ⌝ }
+    requires { ⌜ (lines ≤ length (now buyers)) × (lines ≤ length (now elevators)) × (lines ≤ length (now sellers)) × (lines ≤ length (now lots)) ⌝ }
+    requires { ⌜ (b .held ≤ length (now delivered)) × (b .held ≤ length (now terminated)) × (b .held ≤ length (now sums)) ⌝ }
+    requires { ⌜ ((i : ℕ) → i < lines → (entry (now buyers) i < 128) × (entry (now sellers) i < 128) × (entry (now lots) i ≤ 1_000_000)) ⌝ }
+    requires { ⌜ length (listing b lines (now buyers) (now elevators) (now sellers) (now lots) (now delivered) (now terminated) (now sums)) ≤ length (now out) ⌝ }
+    ensures { λ r. ⌜ r ≡ length (listing b lines (now (buyers .entry)) (now (elevators .entry)) (now (sellers .entry)) (now (lots .entry)) (now (delivered .entry)) (now (terminated .entry)) (now (sums .entry))) ⌝ }
+    ensures { λ _. ⌜ now (out .exit) ≡ over (listing b lines (now (buyers .entry)) (now (elevators .entry)) (now (sellers .entry)) (now (lots .entry)) (now (delivered .entry)) (now (terminated .entry)) (now (sums .entry))) (now (out .entry)) ⌝ }
+{
+    let lot = b.lot;
+    let held = b.held;
+    let mut codes = [0; 896];
+    codes::laid(b, &mut codes);
+    let at = rows::head(lines, out);
+    let at = rows::lines(
+        &codes,
+        buyers,
+        elevators,
+        sellers,
+        lots,
+        lot,
+        lines,
+        out,
+        at,
+    );
+    rows::sections(&codes, delivered, terminated, sums, held, out, at)
+}
+
+// A refused file's row: the number and the place of its refusal. It answers how many bytes were written; later ones remain
+// (01, Program, 2 and 3; 01, Bound, a).
+pub fn refused(number: u8, place: usize, out: &mut [u8]) -> usize
+    requires { ⌜ length (refusedRow number place) ≤ length (now out) ⌝ }
+    ensures { λ r. ⌜ r ≡ length (refusedRow number place) ⌝ }
+    ensures { λ _. ⌜ now (out .exit) ≡ over (refusedRow number place) (now (out .entry)) ⌝ }
+{
+    let at = text::word(b"refused", text::SPACE, out, 0);
+    let at = text::number(number as u64, text::SPACE, out, at);
+    text::number(place as u64, text::LINE_END, out, at)
+}

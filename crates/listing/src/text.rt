@@ -1,0 +1,55 @@
+// Texts and numbers, each with the byte that ends it, written into a buffer from a place on. Each answers the next place.
+ghost use Rattle.rules.specs.Words.{_+_, _*_, _≤_, length, decimal, signedDecimal};
+ghost use Rattle.listing.specs.Columns.{codeAt, field};
+ghost use Rattle.listing.specs.Laid.{Laid};
+use crate::digits;
+use file_operand::bytes;
+use value::signed;
+
+// What parts two fields, and what ends a row (01, Program, 3).
+pub const SPACE: u8 = 32;
+
+pub const LINE_END: u8 = 10;
+
+pub const MINUS: u8 = 45;
+
+pub fn word(text: &[u8], end: u8, out: &mut [u8], at: usize) -> usize
+    requires { ⌜ at + length (field (now text) end) ≤ length (now out) ⌝ }
+    ensures { λ r. ⌜ Laid (now (out .entry)) at (field (now (text .entry)) end) (now (out .exit)) r ⌝ }
+{
+    let next = at + text.len();
+    bytes::put(out, at, text);
+    out[next] = end;
+    next + 1
+}
+
+// The code of section number i (01, Forms, 7).
+pub fn code(codes: &[u8], i: usize, end: u8, out: &mut [u8], at: usize) -> usize
+    requires { ⌜ (7 * i + 7 ≤ length (now codes)) × (at + length (field (codeAt (now codes) i) end) ≤ length (now out)) ⌝ }
+    ensures { λ r. ⌜ Laid (now (out .entry)) at (field (codeAt (now (codes .entry)) i) end) (now (out .exit)) r ⌝ }
+{
+    let from = 7 * i;
+    word(&codes[from..from + 7], end, out, at)
+}
+
+pub fn number(n: u64, end: u8, out: &mut [u8], at: usize) -> usize
+    requires { ⌜ at + length (field (decimal n) end) ≤ length (now out) ⌝ }
+    ensures { λ r. ⌜ Laid (now (out .entry)) at (field (decimal n) end) (now (out .exit)) r ⌝ }
+{
+    let mut digits = [0; 20];
+    let from = digits::laid(n, &mut digits);
+    word(&digits[from..], end, out, at)
+}
+
+// With a minus sign where it is below 0.
+pub fn whole(z: i64, end: u8, out: &mut [u8], at: usize) -> usize
+    requires { ⌜ at + length (field (signedDecimal z) end) ≤ length (now out) ⌝ }
+    ensures { λ r. ⌜ Laid (now (out .entry)) at (field (signedDecimal z) end) (now (out .exit)) r ⌝ }
+{
+    let size = signed::size(z);
+    if z < 0 {
+        out[at] = MINUS;
+        return number(size, end, out, at + 1);
+    }
+    number(size, end, out, at)
+}

@@ -1,0 +1,1 @@
+// No code: the laws of whole event files, on the definitions of `rules`: what the writer makes of what is read, and the calls that a read is.
