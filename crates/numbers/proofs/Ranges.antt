@@ -73,8 +73,6 @@ module _ {A : Type 0} (n : ℕ) (f : ℕ → A) where
   listed-past i d h = getD-past (listed n f) i d (omega (arith, listed-length, h))
 
 -- one number more
-pub listed-more : {A : Type 0} (n : ℕ) (f : ℕ → A) → listed (suc n) f ≡ listed n f ++ (f n ∷ [])
-listed-more n f = ap (map f) (counted-more 0 n) ∙ map-append f (counted 0 n) ((0 + n) ∷ []) ∙ ap (λ (j : ℕ). listed n f ++ (f j ∷ [])) (zero-add n)
 
 -- an entry is written after those that stay, or in the place of one of them
 module _ {A : Type 0} (n : ℕ) (f g : ℕ → A) (x : A) where
