@@ -72,7 +72,6 @@ module _ {A : Type 0} (n : ℕ) (f : ℕ → A) where
   pub listed-past : (i : ℕ) (d : A) → n ≤ i → getD (listed n f) i d ≡ d
   listed-past i d h = getD-past (listed n f) i d (omega (arith, listed-length, h))
 
--- one number more
 
 -- an entry is written after those that stay, or in the place of one of them
 module _ {A : Type 0} (n : ℕ) (f g : ℕ → A) (x : A) where
