@@ -9,7 +9,7 @@ use Rattle.numbers.proofs.Tally.{tally, tally-length, tally-at, tally-within}
 use Rattle.rules.specs.Book.{positionOf, sectionOf, sectionOfNoughts, noticeOf, blankNotice}
 use Rattle.rules.specs.Expiry.{lowerSectionCode, earlier}
 use Rattle.rules.specs.Expiry.Failing.{noticed}
-use Rattle.rules.specs.Expiry.Passes.{sellersIn}
+use Rattle.rules.specs.Expiry.Passes.{sellersIn, elevatorsIn}
 use Rattle.method_laws.specs.Columns.{Columns, settlementsOf, positionsOf, byKey, noticeLotsIn}
 use Rattle.method_laws.specs.Giving.{inOrder}
 use Rattle.method_laws.proofs.Shares.{Told}
@@ -51,11 +51,20 @@ module _ (ns : List Notice) where
   pub seller-at : {sellers : List ℕ} → sellers ≡ sellersIn ns → (k : ℕ) → entry sellers k ≡ noticeOf ns k .section
   seller-at e k = ap (λ (is : List ℕ). entry is k) e ∙ List·getD-map (λ (n : Notice). n .section) ns k blankNotice
 
+  pub stand-at : {stands : List ℕ} → stands ≡ elevatorsIn ns → (k : ℕ) → entry stands k ≡ noticeOf ns k .elevator
+  stand-at e k = ap (λ (es : List ℕ). entry es k) e ∙ List·getD-map (λ (n : Notice). n .elevator) ns k blankNotice
+
   pub lots-at : {lots : List ℕ} → lots ≡ noticeLotsIn ns → (k : ℕ) → entry lots k ≡ natAbs (noticeOf ns k .lots .0)
   lots-at e k = ap (λ (xs : List ℕ). entry xs k) e ∙ List·getD-map (λ (n : Notice). natAbs (n .lots .0)) ns k blankNotice
 
   pub sellers-long : {sellers : List ℕ} → sellers ≡ sellersIn ns → length sellers ≡ length ns
   sellers-long e = ap length e ∙ length-map ns (λ (n : Notice). n .section)
+
+  pub stands-long : {stands : List ℕ} → stands ≡ elevatorsIn ns → length stands ≡ length ns
+  stands-long e = ap length e ∙ length-map ns (λ (n : Notice). n .elevator)
+
+  pub lots-long : {lots : List ℕ} → lots ≡ noticeLotsIn ns → length lots ≡ length ns
+  lots-long e = ap length e ∙ length-map ns (λ (n : Notice). natAbs (n .lots .0))
 
 -- the lots of each section's notices among the first k, in a list of n sections
 abbrev pub noticedFirst : ℕ → List ℕ → List ℕ → ℕ → List ℕ
