@@ -1,5 +1,5 @@
 // A pass: both stages.
-ghost use Rattle.rules.specs.Words.{ℕ, _≡_, _+_, _≤_, _++_, length};
+ghost use Rattle.rules.specs.Words.{_≡_, _+_, _≤_, _++_, length};
 ghost use Rattle.method_laws.specs.Columns.{byKey};
 ghost use Rattle.method_passes.specs.Formed.{linesIn, passPairs, passLines, Sold};
 use crate::offers;
@@ -15,7 +15,7 @@ pub struct Formed {
     pub pairs: usize,
 }
 
-// One pass more: its lines after those that the register has (01, Expiry, 6.1).
+// One pass more: its lines after those that the register has. Before it there are at most 64 passes of 160 pairs (01, Expiry, 6.1).
 pub fn run(
     keys: &[u64],
     buyers: &mut [u64],
@@ -24,7 +24,7 @@ pub fn run(
     drawn: &mut [u64],
     before: Formed,
 ) -> Formed
-    requires { ⌜ (length (now keys) ≤ 128) × (length (now buyers) ≡ length (now keys)) × (before .pairs ≤ 1_000_000) ⌝ }
+    requires { ⌜ (length (now keys) ≤ 128) × (length (now buyers) ≡ length (now keys)) × (before .pairs ≤ 10_240) ⌝ }
     requires { ⌜ Sold (now sellers) (now stands) (now drawn) (length (now keys)) ⌝ }
     requires { ⌜ before .register .count + length (passLines (byKey (now keys)) (now sellers) (now stands) (now buyers) (now drawn)) ≤ 382 ⌝ }
     ensures { λ r. ⌜ linesIn (r .register) ≡ linesIn (before .register) ++ passLines (byKey (now (keys .entry))) (now (sellers .entry)) (now (stands .entry)) (now (buyers .entry)) (now (drawn .entry)) ⌝ }
@@ -36,8 +36,10 @@ pub fn run(
     let formed = ps.count;
     let register = before.register;
     let after = stage_two::form_lines(keys, ps, sellers, stands, drawn, register);
+    let earlier = before.pairs;
+    let all = earlier + formed;
     Formed {
         register: after,
-        pairs: before.pairs + formed,
+        pairs: all,
     }
 }

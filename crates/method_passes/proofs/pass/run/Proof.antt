@@ -35,8 +35,8 @@ form-lines-requires c κs =
     let start = c .before .before .before .before .before .before .before .before .before .before .before .before .before .before .before .before .before in
     ((known (c .before .before .before .before .before), start .pre .1 .0), rw (formed (c .before .before .before .before .before)) (start .pre .1 .1))
 
-add-t23 : tie.Need-add-t23
-add-t23 c = omega (arith, c .before .before .before .before .before .before .before .before .before .before .before .before .before .before .before .before .before .before .before .before .before .pre .0 .2, pairs-count (c .before .before .before .before .before .before .before .before .before .form-pairs .result), known (c .before .before .before .before .before .before .before .before .before) .few)
+add-all : tie.Need-add-all
+add-all c = omega (arith, c .before .before .before .before .before .before .before .before .before .before .before .before .before .before .before .before .before .before .before .before .pre .0 .2, pairs-count (c .before .before .before .before .before .before .before .before .form-pairs .result), known (c .before .before .before .before .before .before .before .before) .few)
 
 same-length : tie.Need-same-length
 same-length c = search needs
@@ -46,10 +46,10 @@ same-length-2 c = search needs
 
 returns : tie.Need-returns
 returns c =
-    let a = c .before .before .before .before .before .before .before .before .before .before .before .before .before .before .before .before .before .before .before .before .before .args in
-    let ps = c .before .before .before .before .before .before .before .before .before .form-pairs .result in (
-      c .before .before .before .form-lines .ensures ∙ ap (λ (qs : List Pair). linesIn (a .before .register) ++ linesFrom (byKey (now (a .keys))) (now (a .sellers)) (now (a .stands)) qs (now (a .drawn))) (formed (c .before .before .before .before .before .before .before .before .before)),
-      ap (λ (n : ℕ). a .before .pairs + n) (sym (pairs-count ps) ∙ ap length (formed (c .before .before .before .before .before .before .before .before .before))),
+    let a = c .before .before .before .before .before .before .before .before .before .before .before .before .before .before .before .before .before .before .before .before .args in
+    let ps = c .before .before .before .before .before .before .before .before .form-pairs .result in (
+      c .before .before .form-lines .ensures ∙ ap (λ (qs : List Pair). linesIn (a .before .register) ++ linesFrom (byKey (now (a .keys))) (now (a .sellers)) (now (a .stands)) qs (now (a .drawn))) (formed (c .before .before .before .before .before .before .before .before)),
+      ap (λ (n : ℕ). a .before .pairs + n) (sym (pairs-count ps) ∙ ap length (formed (c .before .before .before .before .before .before .before .before))),
     )
 
 pub run-spec : {M : Type 1} → statement M
@@ -61,7 +61,7 @@ run-spec =
     slice-aggregate-form-pairs
     form-pairs-requires
     form-lines-requires
-    add-t23
+    add-all
     same-length
     same-length-2
     returns)
