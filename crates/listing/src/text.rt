@@ -1,5 +1,5 @@
 // Texts and numbers, each with the byte that ends it, written into a buffer from a place on. Each answers the next place.
-ghost use Rattle.rules.specs.Words.{_+_, _*_, _≤_, length, decimal, signedDecimal};
+ghost use Rattle.rules.specs.Words.{_+_, _*_, _≤_, _<_, length, decimal, signedDecimal};
 ghost use Rattle.listing.specs.Columns.{codeAt, field};
 ghost use Rattle.listing.specs.Laid.{Laid};
 use crate::digits;
@@ -14,7 +14,7 @@ pub const LINE_END: u8 = 10;
 pub const MINUS: u8 = 45;
 
 pub fn word(text: &[u8], end: u8, out: &mut [u8], at: usize) -> usize
-    requires { ⌜ at + length (field (now text) end) ≤ length (now out) ⌝ }
+    requires { ⌜ at + length (now text) < length (now out) ⌝ }
     ensures { λ r. ⌜ Laid (now (out .entry)) at (field (now (text .entry)) end) (now (out .exit)) r ⌝ }
 {
     let next = at + text.len();
@@ -25,7 +25,7 @@ pub fn word(text: &[u8], end: u8, out: &mut [u8], at: usize) -> usize
 
 // The code of section number i (01, Forms, 7).
 pub fn code(codes: &[u8], i: usize, end: u8, out: &mut [u8], at: usize) -> usize
-    requires { ⌜ (7 * i + 7 ≤ length (now codes)) × (at + length (field (codeAt (now codes) i) end) ≤ length (now out)) ⌝ }
+    requires { ⌜ (7 * i + 7 ≤ length (now codes)) × (at + length (codeAt (now codes) i) < length (now out)) ⌝ }
     ensures { λ r. ⌜ Laid (now (out .entry)) at (field (codeAt (now (codes .entry)) i) end) (now (out .exit)) r ⌝ }
 {
     let from = 7 * i;
@@ -33,7 +33,7 @@ pub fn code(codes: &[u8], i: usize, end: u8, out: &mut [u8], at: usize) -> usize
 }
 
 pub fn number(n: u64, end: u8, out: &mut [u8], at: usize) -> usize
-    requires { ⌜ at + length (field (decimal n) end) ≤ length (now out) ⌝ }
+    requires { ⌜ at + length (decimal n) < length (now out) ⌝ }
     ensures { λ r. ⌜ Laid (now (out .entry)) at (field (decimal n) end) (now (out .exit)) r ⌝ }
 {
     let mut digits = [0; 20];
@@ -43,7 +43,7 @@ pub fn number(n: u64, end: u8, out: &mut [u8], at: usize) -> usize
 
 // With a minus sign where it is below 0.
 pub fn whole(z: i64, end: u8, out: &mut [u8], at: usize) -> usize
-    requires { ⌜ at + length (field (signedDecimal z) end) ≤ length (now out) ⌝ }
+    requires { ⌜ at + length (signedDecimal z) < length (now out) ⌝ }
     ensures { λ r. ⌜ Laid (now (out .entry)) at (field (signedDecimal z) end) (now (out .exit)) r ⌝ }
 {
     let size = signed::size(z);

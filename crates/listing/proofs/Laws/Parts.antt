@@ -1,5 +1,5 @@
 -- A text written part by part: what stands, and the parts that are left.
-use Rattle.numbers.proofs.Words.{ℕ, _+_, _≤_, arith, _≡_, refl, sym, ap, _∙_, List, [], _∷_, _++_, append-assoc, append-nil, length, length-append}
+use Rattle.numbers.proofs.Words.{ℕ, _+_, _≤_, _<_, arith, _≡_, refl, sym, ap, _∙_, List, [], _∷_, _++_, append-assoc, append-nil, length, length-append}
 use Rattle.rules.specs.Listing.{row}
 use Rattle.listing.specs.Columns.{field}
 use Rattle.listing.specs.Laid.{Laid}
@@ -53,6 +53,10 @@ module _ {was : List ℕ} {at : ℕ} {whole mid : List ℕ} {next : ℕ} where
           parts = b .parts ∙ sym (append-assoc (b .done) text (joined texts));
           room = b .room;
         }
+
+  -- a field comes next, with room for the byte that ends it
+  pub room-field : (text : List ℕ) (end : ℕ) {texts : List (List ℕ)} → Begun was at whole mid next (field text end ∷ texts) → next + length text < length mid
+  room-field text end b = omega (arith, room-next b, length-append text (end ∷ []))
 
   -- nothing is left
   pub finished : Begun was at whole mid next [] → Laid was at whole mid next

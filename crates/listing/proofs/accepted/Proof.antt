@@ -6,7 +6,11 @@ use Rattle.listing.proofs.Laws.Parts.{Begun, begun, room-next, then, fi
 use Rattle.listing.proofs.accepted.Statement.{statement}
 use Rattle.listing.proofs.accepted.Tie as tie
 
-start : (c : tie.After-laid) → Begun (now (c .before .before .before .before .before .before .before .before .before .before .args .out)) 0 (listing (c .before .before .before .before .before .before .before .before .before .before .args .b) (c .before .before .before .before .before .before .before .before .before .before .args .lines) (now (c .before .before .before .before .before .before .before .before .before .before .args .buyers)) (now (c .before .before .before .before .before .before .before .before .before .before .args .elevators)) (now (c .before .before .before .before .before .before .before .before .before .before .args .sellers)) (now (c .before .before .before .before .before .before .before .before .before .before .args .lots)) (now (c .before .before .before .before .before .before .before .before .before .before .args .delivered)) (now (c .before .before .before .before .before .before .before .before .before .before .args .terminated)) (now (c .before .before .before .before .before .before .before .before .before .before .args .sums))) (now (c .before .before .before .before .before .before .before .before .before .before .args .out)) 0 (parts (c .before .before .before .before .before .before .before .before .before .before .args .b) (c .before .before .before .before .before .before .before .before .before .before .args .lines) (now (c .before .before .before .before .before .before .before .before .before .before .args .buyers)) (now (c .before .before .before .before .before .before .before .before .before .before .args .elevators)) (now (c .before .before .before .before .before .before .before .before .before .before .args .sellers)) (now (c .before .before .before .before .before .before .before .before .before .before .args .lots)) (now (c .before .before .before .before .before .before .before .before .before .before .args .delivered)) (now (c .before .before .before .before .before .before .before .before .before .before .args .terminated)) (now (c .before .before .before .before .before .before .before .before .before .before .args .sums)) (c .laid .last .1 .0))
+-- the codes are laid, and the rows are to come
+start : (c : tie.After-laid)
+    → let s = c .before .before .before .before .before .before .before .before .before .before in
+    Begun (now (s .args .out)) 0 (listing (s .args .b) (s .args .lines) (now (s .args .buyers)) (now (s .args .elevators)) (now (s .args .sellers)) (now (s .args .lots)) (now (s .args .delivered)) (now (s .args .terminated)) (now (s .args .sums)))
+    (now (s .args .out)) 0 (parts (s .args .b) (s .args .lines) (now (s .args .buyers)) (now (s .args .elevators)) (now (s .args .sellers)) (now (s .args .lots)) (now (s .args .delivered)) (now (s .args .terminated)) (now (s .args .sums)) (c .laid .last .1 .0))
 start c =
     let s = c .before .before .before .before .before .before .before .before .before .before in
     begun _ 0 _ _ (listing-parts (s .args .b) _ _ _ _ _ _ _ _ (c .laid .last .1 .0) (c .laid .ensures) (s .pre .0 .0) (s .pre .1 .1 .1 .0)) (rw zero-add (s .pre .1 .1 .1 .1))
@@ -25,23 +29,32 @@ slice-aggregate-lines c = search needs
 
 lines-requires : tie.Need-lines-requires
 lines-requires c κs =
-    let s = c .before .before .before .before .before .before .before .before .before .before .before .before .before .before .before .before .before in
-    ((omega (arith, c .before .before .before .before .before .before .before .laid .kept .1 .0), s .pre .0 .1), (s .pre .1 .0, (s .pre .1 .1 .1 .0, room-next (then (start (c .before .before .before .before .before .before .before)) (c .before .before .before .before .head .ensures)))))
+    let head = c .before .before .before .before in
+    let codes = head .before .before .before in
+    let s = codes .before .before .before .before .before .before .before .before .before .before in
+    ((omega (arith, codes .laid .kept .1 .0), s .pre .0 .1), (s .pre .1 .0, (s .pre .1 .1 .1 .0, room-next (then (start codes) (head .head .ensures)))))
 
 slice-aggregate-sections : tie.Need-slice-aggregate-sections
 slice-aggregate-sections c = search needs
 
 sections-requires : tie.Need-sections-requires
 sections-requires c κs =
-    let s = c .before .before .before .before .before .before .before .before .before .before .before .before .before .before .before .before .before .before .before .before .before .before in
+    let lines = c .before .before .before .before in
+    let head = lines .before .before .before .before .before in
+    let codes = head .before .before .before in
+    let s = codes .before .before .before .before .before .before .before .before .before .before in
     let lists = s .pre .1 .1 .0 in
-    ((omega (arith, c .before .before .before .before .before .before .before .before .before .before .before .before .laid .kept .1 .0), s .pre .0 .0, lists .0, lists .1, lists .2), room-next (then (then (start (c .before .before .before .before .before .before .before .before .before .before .before .before)) (c .before .before .before .before .before .before .before .before .before .head .ensures)) (c .before .before .before .before .lines .ensures)))
+    ((omega (arith, codes .laid .kept .1 .0), s .pre .0 .0, lists .0, lists .1, lists .2), room-next (then (then (start codes) (head .head .ensures)) (lines .lines .ensures)))
 
 same-length : tie.Need-same-length
 same-length c = search needs
 
 returns : tie.Need-returns
-returns c = laid-over _ (finished (then (then (then (start (c .before .before .before .before .before .before .before .before .before .before .before .before .before .before .before)) (c .before .before .before .before .before .before .before .before .before .before .before .before .head .ensures)) (c .before .before .before .before .before .before .before .lines .ensures)) (c .before .before .sections .ensures)))
+returns c =
+    let sections = c .before .before in
+    let lines = sections .before .before .before .before .before in
+    let head = lines .before .before .before .before .before in
+    laid-over _ (finished (then (then (then (start (head .before .before .before)) (head .head .ensures)) (lines .lines .ensures)) (sections .sections .ensures)))
 
 pub accepted-spec : {M : Type 1} → statement M
 accepted-spec =

@@ -2,7 +2,7 @@ use Rattle.numbers.proofs.Words.{needs, zero-add, [], _∷_, now}
 use Rattle.numbers.specs.Text.{bytes, decimal}
 use Rattle.listing.specs.Columns.{refusedRow}
 use Rattle.listing.proofs.Laws.Laid.{laid-over}
-use Rattle.listing.proofs.Laws.Parts.{Begun, begun-row, ended, room-next, then, finished}
+use Rattle.listing.proofs.Laws.Parts.{Begun, begun-row, ended, room-field, then, finished}
 use Rattle.listing.proofs.refused.Statement.{statement}
 use Rattle.listing.proofs.refused.Tie as tie
 
@@ -14,22 +14,31 @@ slice-aggregate-word c = search needs
 
 word-requires : tie.Need-word-requires
 unfolding bytes
-word-requires c κs = room-next (start (c .before .before .before))
+word-requires c κs = room-field (bytes "refused") 32 (start (c .before .before .before))
 
 number-requires : tie.Need-number-requires
 unfolding bytes
-number-requires c κs = room-next (then (start (c .before .before .before .before .before .before .before)) (c .before .before .before .word .ensures))
+number-requires c κs =
+    let first = c .before .before .before in
+    room-field (decimal _) 32 (then (start (first .before .before .before .before)) (first .word .ensures))
 
 number-requires-2 : tie.Need-number-requires-2
 unfolding bytes
-number-requires-2 c κs = room-next (then (then (start (c .before .before .before .before .before .before .before .before .before .before .before)) (c .before .before .before .before .before .before .before .word .ensures)) (c .before .before .before .number .ensures))
+number-requires-2 c κs =
+    let second = c .before .before .before in
+    let first = second .before .before .before .before in
+    room-field (decimal _) 10 (then (then (start (first .before .before .before .before)) (first .word .ensures)) (second .number .ensures))
 
 same-length : tie.Need-same-length
 same-length c = search needs
 
 returns : tie.Need-returns
 unfolding bytes
-returns c = laid-over _ (finished (then (then (then (start (c .before .before .before .before .before .before .before .before .before .before .before .before .before .before)) (c .before .before .before .before .before .before .before .before .before .before .word .ensures)) (c .before .before .before .before .before .before .number .ensures)) (c .before .before .number2 .ensures)))
+returns c =
+    let third = c .before .before in
+    let second = third .before .before .before .before in
+    let first = second .before .before .before .before in
+    laid-over _ (finished (then (then (then (start (first .before .before .before .before)) (first .word .ensures)) (second .number .ensures)) (third .number2 .ensures)))
 
 pub refused-spec : {M : Type 1} → statement M
 refused-spec =

@@ -1,7 +1,7 @@
 use Rattle.numbers.proofs.Words.{needs, zero-add, [], _∷_, now}
 use Rattle.numbers.specs.Text.{bytes, decimal}
 use Rattle.listing.specs.Columns.{headRow}
-use Rattle.listing.proofs.Laws.Parts.{Begun, begun-row, ended, room-next, then, finished}
+use Rattle.listing.proofs.Laws.Parts.{Begun, begun-row, ended, room-field, then, finished}
 use Rattle.listing.proofs.rows.head.Statement.{statement}
 use Rattle.listing.proofs.rows.head.Tie as tie
 
@@ -13,18 +13,23 @@ slice-aggregate-word c = search needs
 
 word-requires : tie.Need-word-requires
 unfolding bytes
-word-requires c κs = room-next (start (c .before .before .before))
+word-requires c κs = room-field (bytes "register") 32 (start (c .before .before .before))
 
 number-requires : tie.Need-number-requires
 unfolding bytes
-number-requires c κs = room-next (then (start (c .before .before .before .before .before .before .before)) (c .before .before .before .word .ensures))
+number-requires c κs =
+    let first = c .before .before .before in
+    room-field (decimal _) 10 (then (start (first .before .before .before .before)) (first .word .ensures))
 
 same-length : tie.Need-same-length
 same-length c = search needs
 
 returns : tie.Need-returns
 unfolding bytes
-returns c = finished (then (then (start (c .before .before .before .before .before .before .before .before .before .before)) (c .before .before .before .before .before .before .word .ensures)) (c .before .before .number .ensures))
+returns c =
+    let second = c .before .before in
+    let first = second .before .before .before .before in
+    finished (then (then (start (first .before .before .before .before)) (first .word .ensures)) (second .number .ensures))
 
 pub head-spec : {M : Type 1} → statement M
 head-spec =

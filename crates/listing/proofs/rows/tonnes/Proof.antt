@@ -17,7 +17,7 @@ cast-t6 : tie.Need-cast-t6
 cast-t6 c = omega (arith, size-is c, c .before .before .pre)
 
 mul-t7 : tie.Need-mul-t7
-mul-t7 c = omega (arith, small c)
+mul-t7 c = omega (arith, small c, size-is c, c .before .before .pre)
 
 returns : tie.Need-returns
 unfolding tonnesOf

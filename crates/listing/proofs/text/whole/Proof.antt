@@ -1,4 +1,4 @@
-use Rattle.numbers.proofs.Words.{ℕ, needs, arith, _+_, _≤_, _≡_, _∙_, sym, ap, [], _∷_, length, length-set, now, ℤ, pos, natAbs, ltZ, w64, toZ, ofZ, toZ-ofZ}
+use Rattle.numbers.proofs.Words.{ℕ, needs, arith, _+_, _<_, _≡_, _∙_, sym, ap, [], _∷_, length, length-set, now, ℤ, pos, natAbs, ltZ, w64, toZ, ofZ, toZ-ofZ}
 use Rattle.numbers.specs.Text.{decimal, signedDecimal}
 use Rattle.listing.specs.Columns.{field}
 use Rattle.listing.proofs.Laws.Digits.{below-zero, above-zero}
@@ -23,7 +23,7 @@ above c =
     ∙ ap decimal (size-is (c .before))
 
 -- there is room for the sign and the digits
-room : (c : tie.Then1) → c .before .before .before .args .at + 1 + length (field (decimal (c .before .size .result)) (c .before .before .before .args .end)) ≤ length (now (c .before .before .before .args .out))
+room : (c : tie.Then1) → c .before .before .before .args .at + 1 + length (decimal (c .before .size .result)) < length (now (c .before .before .before .args .out))
 room c = omega (arith, rw (below c) at (c .before .before .before .pre))
 
 size-requires : tie.Need-size-requires

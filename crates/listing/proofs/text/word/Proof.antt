@@ -1,19 +1,16 @@
-use Rattle.numbers.proofs.Words.{needs, arith, _+_, _<_, length, [], _∷_, length-append, now, refl}
+use Rattle.numbers.proofs.Words.{needs, arith, [], _∷_, now, refl}
 use Rattle.listing.proofs.Laws.Laid.{laid-then, laid-byte}
 use Rattle.listing.proofs.text.word.Statement.{statement}
 use Rattle.listing.proofs.text.word.Tie as tie
-
-room : (c : tie.Start) → c .args .at + length (now (c .args .text)) < length (now (c .args .out))
-room c = omega (arith, length-append (now (c .args .text)) (c .args .end ∷ []))
 
 add-next : tie.Need-add-next
 add-next c = search needs
 
 put-requires : tie.Need-put-requires
-put-requires c κs = omega (arith, room (c .before .before .before))
+put-requires c κs = omega arith
 
 slice-write-out : tie.Need-slice-write-out
-slice-write-out c = omega (arith, room (c .before .before .before .before .before .before), c .before .before .put .kept .0)
+slice-write-out c = omega (arith, c .before .before .put .kept .0)
 
 add-result : tie.Need-add-result
 add-result c = search needs
@@ -25,8 +22,8 @@ returns : tie.Need-returns
 returns c =
     let start = c .before .before .before .before .before .before in
     let put = c .before .before .put in
-    laid-then (now (start .args .text)) (start .args .end ∷ []) (record { written = put .ensures; ends = refl }) (omega (arith, room start))
-    (laid-byte (put .last .0) _ (start .args .end) (omega (arith, room start, put .kept .0)))
+    laid-then (now (start .args .text)) (start .args .end ∷ []) (record { written = put .ensures; ends = refl }) (omega arith)
+    (laid-byte (put .last .0) _ (start .args .end) (omega (arith, put .kept .0)))
 
 pub word-spec : {M : Type 1} → statement M
 word-spec =
