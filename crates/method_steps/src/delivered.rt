@@ -16,13 +16,7 @@ use rules::limits::SECTION_PLACES;
 use rules::limits::SETTLEMENT_CODES;
 
 // Step 2: what is left when the codes are closed, and D (01, Expiry, 2.2; 01, Expiry, 3.1).
-fn close_codes(
-    codes: &[u8],
-    positions: &[i64],
-    keys: &[u64],
-    gaps: &[i64],
-    kept: &mut [u64],
-) -> i64
+fn close_codes(codes: &[u8], positions: &[i64], keys: &[u64], gaps: &[i64], kept: &mut [u64]) -> i64
     requires { ⌜ Held (now codes) (now positions) (now keys) (length (now kept)) × (length (now gaps) ≡ 64) ⌝ }
     requires { ⌜ ((c : ℕ) → natAbs (entryℤ (now gaps) c) ≤ 128_000_000) × ((i : ℕ) → entry (now kept) i ≤ 1_000_000) ⌝ }
     ensures { λ _. ⌜ ((ss : List Section) → Columns ss (now (codes .entry)) (now (positions .entry)) (now (keys .entry)) → now (kept .exit) ≡ less (now (kept .entry)) (Codes.givenInCodes ss (now (gaps .entry)) (now (kept .entry)))) ⌝ }
@@ -32,7 +26,15 @@ fn close_codes(
     let held = kept.len();
     let mut given = [0; SECTION_PLACES];
     let mut net = [0; SETTLEMENT_CODES];
-    in_codes::give(codes, positions, keys, gaps, false, kept, &mut given[..held]);
+    in_codes::give(
+        codes,
+        positions,
+        keys,
+        gaps,
+        false,
+        kept,
+        &mut given[..held],
+    );
     nets::nets(codes, positions, &given[..held], &mut net);
     lists::less(kept, &given[..held]);
     across::left_open(gaps, &net)
@@ -51,13 +53,7 @@ fn close_across(codes: &[u8], positions: &[i64], keys: &[u64], d: i64, kept: &mu
 }
 
 // What each section delivers, given what the failing sections have (01, Expiry, 1.2).
-pub fn delivered(
-    codes: &[u8],
-    positions: &[i64],
-    keys: &[u64],
-    failed: &[u64],
-    kept: &mut [u64],
-)
+pub fn delivered(codes: &[u8], positions: &[i64], keys: &[u64], failed: &[u64], kept: &mut [u64])
     requires { ⌜ Held (now codes) (now positions) (now keys) (length (now kept)) × (length (now failed) ≡ length (now kept)) × ((i : ℕ) → entry (now failed) i ≤ 1_000_000) ⌝ }
     ensures { λ _. ⌜ ((ss : List Section) (ns : List Notice) → Columns ss (now (codes .entry)) (now (positions .entry)) (now (keys .entry)) → now (failed .entry) ≡ Failing.failing ss ns → now (kept .exit) ≡ Call.delivered ss ns) ⌝ }
     ensures { λ _. ⌜ ((i : ℕ) → entry (now (kept .exit)) i ≤ 1_000_000) ⌝ }

@@ -11,7 +11,15 @@ use rules::limits::SECTION_PLACES;
 use rules::limits::SETTLEMENT_CODES;
 
 // What each section gives of the size of its code's number: towards D(c), or outside where `outside` says so; `given` is noughts at first (01, Expiry, 2.2; 01, Expiry, 4.1).
-pub fn give(codes: &[u8], positions: &[i64], keys: &[u64], numbers: &[i64], outside: bool, kept: &[u64], given: &mut [u64])
+pub fn give(
+    codes: &[u8],
+    positions: &[i64],
+    keys: &[u64],
+    numbers: &[i64],
+    outside: bool,
+    kept: &[u64],
+    given: &mut [u64],
+)
     requires { ⌜ Held (now codes) (now positions) (now keys) (length (now kept)) × (length (now numbers) ≡ 64) × (now given ≡ replicate (length (now kept)) 0) ⌝ }
     requires { ⌜ ((c : ℕ) → natAbs (entryℤ (now numbers) c) ≤ 128_000_000) ⌝ }
     ensures { λ _. ⌜ ((ss : List Section) → Columns ss (now (codes .entry)) (now (positions .entry)) (now (keys .entry)) → now (given .exit) ≡ Giving.givenBySize outside ss (now (numbers .entry)) (now (kept .entry))) ⌝ }
@@ -24,5 +32,14 @@ pub fn give(codes: &[u8], positions: &[i64], keys: &[u64], numbers: &[i64], outs
     lists::magnitudes(numbers, &mut caps);
     let need = lists::sum(&caps);
     let larger = outside;
-    ordered::give(codes, positions, keys, &lots[..held], larger, &mut caps, need, given);
+    ordered::give(
+        codes,
+        positions,
+        keys,
+        &lots[..held],
+        larger,
+        &mut caps,
+        need,
+        given,
+    );
 }

@@ -1,4 +1,7 @@
-use Rattle.numbers.proofs.Words.{needs}
+-- The calls' `ensures`, one after the other.
+use Rattle.numbers.proofs.Words.{needs, ap, _∙_, true, List, ℤ, now}
+use Rattle.rules.specs.Expiry.Outside
+use Rattle.method_laws.specs.Giving.{givenBySize}
 use Rattle.method_steps.proofs.outside.outside.Statement.{statement}
 use Rattle.method_steps.proofs.outside.outside.Tie as tie
 
@@ -18,7 +21,15 @@ same-length : tie.Need-same-length
 same-length c = search needs
 
 returns : tie.Need-returns
-returns c = ?
+unfolding Outside.outside
+returns c =
+    let gave = c .before .before in
+    let netted = gave .before .before .before .before in (
+      λ ss columns.
+          gave .give .ensures .0 ss columns
+          ∙ ap (λ (nets : List ℤ). givenBySize true ss nets (now (netted .before .before .before .before .before .before .args .kept))) (netted .nets .ensures .0 ss (columns .codes-are) (columns .positions-are)),
+      gave .give .ensures .1,
+    )
 
 pub outside-spec : {M : Type 1} → statement M
 outside-spec =
