@@ -1,5 +1,5 @@
 -- A list that is filled by number: entry i becomes f i, one turn after the other.
-use Rattle.numbers.proofs.Words.{ℕ, suc, _+_, _≤_, _<_, add-one, arith, _≡_, refl, ap, ap₂, _∙_, List, [], _∷_, _++_, append-assoc, append-nil, length, getD, set, drop, drop-of-length-le, length-append, length-drop, drop-cons, set-at, getD-at, counted, listed}
+use Rattle.numbers.proofs.Words.{ℕ, suc, _+_, _≤_, _<_, add-one, arith, _≡_, refl, ap, ap₂, _∙_, List, _++_, append-assoc, append-nil, length, getD, set, drop, drop-of-length-le, length-append, length-drop, drop-cons, set-at, getD-at, counted, listed}
 use Rattle.numbers.proofs.Ranges.{listed-length, listed-more}
 
 -- after i turns
