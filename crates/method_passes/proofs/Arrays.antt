@@ -1,5 +1,5 @@
 -- Pairs and lines in arrays: how many there are, which is at a place, one more, and a pair with lots left.
-use Rattle.numbers.proofs.Words.{ℕ, _+_, _-_, _≤_, _<_, arith, _≡_, refl, sym, ap, _∙_, List, [], _∷_, _++_, map, length, set, length-append, length-map, length-set, List·getD-map, getD-set-same, getD-set-other, map-set-same, entry, counted, listed}
+use Rattle.numbers.proofs.Words.{ℕ, _+_, _≤_, _<_, arith, _≡_, refl, sym, ap, _∙_, List, [], _∷_, _++_, map, length, set, length-append, length-map, length-set, List·getD-map, getD-set-same, getD-set-other, map-set-same, entry}
 use Rattle.numbers.proofs.Ranges.{listed-length, listed-at, listed-next, listed-set}
 use Rattle.rules.specs.Expiry.Passes.{Pair, Line, pairOf, withLots}
 use Rattle.method_passes.specs.declared.{pairs.Pairs.Pairs, register.Register.Register}

@@ -1,5 +1,5 @@
 -- Stage one, as its loop goes: the pairs formed, and those that stage one forms of what is left, are all pairs.
-use Rattle.numbers.proofs.Words.{ℕ, zero, suc, _+_, _-_, _≤_, _<_, min, arith, _≡_, refl, sym, ap, _∙_, Bool, true, false, cond, List, [], _∷_, _++_, append-assoc, append-nil, eqb, length, length-set, set, eq-eqb, ne-eqb, entry}
+use Rattle.numbers.proofs.Words.{ℕ, suc, _+_, _-_, _≤_, _<_, min, arith, _≡_, refl, sym, ap, _∙_, Bool, true, false, cond, List, [], _∷_, _++_, append-assoc, append-nil, eqb, length, length-set, set, eq-eqb, ne-eqb, entry}
 use Rattle.numbers.proofs.Entries.{entry-place}
 use Rattle.rules.specs.Expiry.Passes.{Pair, fullestBuyer, fullestElevator, stageOne}
 use Rattle.method_passes.specs.declared.{pairs.Pairs.Pairs}

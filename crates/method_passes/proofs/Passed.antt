@@ -1,5 +1,5 @@
 -- A pass by its columns is the pass of the sections and the notices that have these columns (01, Expiry, 6.1).
-use Rattle.numbers.proofs.Words.{ℕ, _+_, _<_, arith, _≡_, refl, sym, ap, _∙_, List, length, length-map, entry, ℤ}
+use Rattle.numbers.proofs.Words.{ℕ, _+_, _<_, arith, _≡_, sym, ap, _∙_, List, length, length-map, entry, ℤ}
 use Rattle.rules.specs.declared.book.{Section.Section, Notice.Notice}
 use Rattle.rules.specs.Book.{elevators}
 use Rattle.rules.specs.Expiry.{lowerSectionCode}

@@ -2,7 +2,7 @@
 use Rattle.numbers.proofs.Words.{ℕ, zero, suc, _+_, _-_, _≤_, _<_, min, not-suc-le-zero, le-of-suc-le-suc, arith, _≡_, refl, sym, ap, subst⁻¹, _∙_, Bool, true, false, cond, _||_, List, [], _∷_, map, eqb, ltb, length, set, length-map, length-set, eq-eqb, eqb-false, _and_, entry, total}
 use Rattle.numbers.proofs.Entries.{entry-place, entry-part}
 use Rattle.numbers.proofs.Orders.{largest-same}
-use Rattle.rules.specs.Expiry.Passes.{Pair, Line, pairOf, offers, elevatorLots, earlierPair, fullestBuyer, fullestElevator, fullestPair, fullestNotice, stageOne, stageTwo}
+use Rattle.rules.specs.Expiry.Passes.{Pair, Line, pairOf, offers, elevatorLots, fullestBuyer, fullestElevator, fullestPair, fullestNotice, stageOne, stageTwo}
 use Rattle.method_passes.specs.declared.{stage_two.Choice.Choice}
 use Rattle.method_passes.specs.Formed.{pairLeft, nextChoice, passPairs, passLines, Known}
 use Rattle.method_passes.proofs.Arrays.{left-buyer, left-length}

@@ -98,8 +98,8 @@ pub fn notice(keys: &[u64], sellers: &[u8], stands: &[u8], drawn: &[u64], elevat
         let other = sellers[best] as usize;
         let mine = keys[seller];
         let its = keys[other];
-        let earlier = mine < its;
-        best = leader(i, own, best, most, earlier);
+        let lower = mine < its;
+        best = leader(i, own, best, most, lower);
         i += 1;
     }
     best

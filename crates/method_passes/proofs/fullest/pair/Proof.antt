@@ -1,5 +1,5 @@
 use Rattle.numbers.proofs.Words.{ℕ, Bool, List, needs, _-_, _<_, _≤_, arith, now, sym, ap₂, _∙_, length, entry}
-use Rattle.rules.specs.Expiry.Passes.{Pair, pairOf, earlierPair}
+use Rattle.rules.specs.Expiry.Passes.{pairOf, earlierPair}
 use Rattle.method_laws.specs.Columns.{byKey}
 use Rattle.method_passes.specs.declared.{pairs.Pairs.Pairs}
 use Rattle.method_passes.specs.Formed.{pairsIn}
@@ -17,15 +17,15 @@ Inv-loop keys ps best₀ i₀ best i = Scan (earlier keys ps) (lotsIn ps) best i
 abbrev μ-loop : tie.MeasureT-loop
 μ-loop keys ps best₀ i₀ best i = ps .count - i
 
+abbrev start : tie.At-loop Inv-loop μ-loop → tie.Start Inv-loop μ-loop
+start c = c .before .before
+
 -- there is a place for each pair, and each buyer has a key
-few : (c : tie.At-loop Inv-loop μ-loop) → c .before .before .args .t2 .count ≤ 160
-few c = omega (arith, pairs-count (c .before .before .args .t2), c .before .before .pre .few)
+few : (c : tie.At-loop Inv-loop μ-loop) → start c .args .t2 .count ≤ 160
+few c = omega (arith, pairs-count (start c .args .t2), start c .pre .few)
 
-mine : (c : tie.After-other Inv-loop μ-loop) → entry (c .before .before .before .before .before .before .before .args .t2 .buyers) (c .before .before .before .before .before .loop .i) < length (now (c .before .before .before .before .before .before .before .args .keys))
-mine c = known-buyer (c .before .before .before .before .before .before .before .args .t2) _ (c .before .before .before .before .before .before .before .pre) (c .before .before .before .before .before .loop .i) (omega arith)
-
-its : (c : tie.After-other Inv-loop μ-loop) → entry (c .before .before .before .before .before .before .before .args .t2 .buyers) (c .before .before .before .before .before .loop .best) < length (now (c .before .before .before .before .before .before .before .args .keys))
-its c = known-buyer (c .before .before .before .before .before .before .before .args .t2) _ (c .before .before .before .before .before .before .before .pre) (c .before .before .before .before .before .loop .best) (omega arith)
+keyed : (c : tie.At-loop Inv-loop μ-loop) (k : ℕ) → k < start c .args .t2 .count → entry (start c .args .t2 .buyers) k < length (now (start c .args .keys))
+keyed c = known-buyer (start c .args .t2) _ (start c .pre)
 
 loop-holds : tie.Need-loop-holds Inv-loop μ-loop
 loop-holds c = scan-start (earlier (now (c .before .args .keys)) (c .before .args .t2)) (lotsIn (c .before .args .t2))
@@ -52,19 +52,19 @@ cast-mine : tie.Need-cast-mine Inv-loop μ-loop
 cast-mine c = search needs
 
 mul-mine : tie.Need-mul-mine Inv-loop μ-loop
-mul-mine c = omega (arith, mine c)
+mul-mine c = omega (arith, keyed (c .before .before .before .before .before) (c .before .before .before .before .before .loop .i) (omega arith))
 
 shared-slice-read-mine : tie.Need-shared-slice-read-mine Inv-loop μ-loop
-shared-slice-read-mine c = mine (c .before)
+shared-slice-read-mine c = keyed (c .before .before .before .before .before .before) (c .before .before .before .before .before .before .loop .i) (omega arith)
 
 cast-its : tie.Need-cast-its Inv-loop μ-loop
 cast-its c = search needs
 
 mul-its : tie.Need-mul-its Inv-loop μ-loop
-mul-its c = omega (arith, its (c .before))
+mul-its c = omega (arith, keyed (c .before .before .before .before .before .before) (c .before .before .before .before .before .before .loop .best) (omega arith))
 
 shared-slice-read-its : tie.Need-shared-slice-read-its Inv-loop μ-loop
-shared-slice-read-its c = its (c .before .before)
+shared-slice-read-its c = keyed (c .before .before .before .before .before .before .before) (c .before .before .before .before .before .before .before .loop .best) (omega arith)
 
 element-copy-out-stands : tie.Need-element-copy-out-stands Inv-loop μ-loop
 element-copy-out-stands c = omega (arith, few (c .before .before .before .before .before .before .before))
@@ -87,8 +87,8 @@ loop-less c = search needs
 loop-again : tie.Need-loop-again Inv-loop μ-loop
 loop-again c =
     let at = c .before .before .before .before .before .before .before .before .before .before .before in
-    let keys = now (at .before .before .args .keys) in
-    let ps = at .before .before .args .t2 in
+    let keys = now (start at .args .keys) in
+    let ps = start at .args .t2 in
     let below : at .loop .i < ps .count = omega arith in
     let below′ : at .loop .best < ps .count = omega arith in
     scan-next (earlier keys ps) (lotsIn ps) (at .loop .best) (at .loop .i) _ _ _ _ (omega (arith, lots-length ps)) (at .loop .inv)
@@ -100,8 +100,8 @@ loop-again c =
 returns : tie.Need-returns Inv-loop μ-loop
 returns c =
     let at = c .before in
-    let ps = at .before .before .args .t2 in
-    scan-end (earlier (now (at .before .before .args .keys)) ps) (lotsIn ps) (at .loop .best) (at .loop .i) (omega (arith, lots-length ps)) (at .loop .inv)
+    let ps = start at .args .t2 in
+    scan-end (earlier (now (start at .args .keys)) ps) (lotsIn ps) (at .loop .best) (at .loop .i) (omega (arith, lots-length ps)) (at .loop .inv)
 
 pub pair-spec : {M : Type 1} → statement M
 pair-spec =

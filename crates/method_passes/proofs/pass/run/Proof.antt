@@ -8,15 +8,17 @@ use Rattle.method_passes.proofs.Stages.{pass-known}
 use Rattle.method_passes.proofs.pass.run.Statement.{statement}
 use Rattle.method_passes.proofs.pass.run.Tie as tie
 
--- the pairs of the pass
-formed : (c : tie.After-form-pairs) → pairsIn (c .form-pairs .result) ≡ passPairs (byKey (now (c .before .before .before .before .before .before .before .before .before .before .before .before .args .keys))) (now (c .before .before .before .before .before .before .before .before .before .before .before .before .args .stands)) (now (c .before .before .before .before .before .before .before .before .before .before .before .before .args .buyers)) (now (c .before .before .before .before .before .before .before .before .before .before .before .before .args .drawn))
-formed c = c .form-pairs .ensures ∙ ap (pairsFrom (byKey (now (c .before .before .before .before .before .before .before .before .before .before .before .before .args .keys))) (now (c .before .before .before .before .before .before .before .before .before .before .before .before .args .buyers))) (c .before .before .before .before .elevator-lots .ensures)
+abbrev start : tie.After-form-pairs → tie.Start
+start c = c .before .before .before .before .before .before .before .before .before .before .before .before
 
-known : (c : tie.After-form-pairs) → Known (pairsIn (c .form-pairs .result)) (length (now (c .before .before .before .before .before .before .before .before .before .before .before .before .args .keys)))
+-- the pairs of the pass
+formed : (c : tie.After-form-pairs) → pairsIn (c .form-pairs .result) ≡ passPairs (byKey (now (start c .args .keys))) (now (start c .args .stands)) (now (start c .args .buyers)) (now (start c .args .drawn))
+formed c = c .form-pairs .ensures ∙ ap (pairsFrom (byKey (now (start c .args .keys))) (now (start c .args .buyers))) (c .before .before .before .before .elevator-lots .ensures)
+
+known : (c : tie.After-form-pairs) → Known (pairsIn (c .form-pairs .result)) (length (now (start c .args .keys)))
 known c =
-    let start = c .before .before .before .before .before .before .before .before .before .before .before .before in
-    let a = start .args in
-    rw (formed c, sym (start .pre .0 .1)) (pass-known (byKey (now (a .keys))) (now (a .stands)) (now (a .buyers)) (now (a .drawn)) (omega (arith, start .pre .0 .0, start .pre .0 .1)))
+    let a = start c .args in
+    rw (formed c, sym (start c .pre .0 .1)) (pass-known (byKey (now (a .keys))) (now (a .stands)) (now (a .buyers)) (now (a .drawn)) (omega (arith, start c .pre .0 .0, start c .pre .0 .1)))
 
 slice-aggregate-elevator-lots : tie.Need-slice-aggregate-elevator-lots
 slice-aggregate-elevator-lots c = search needs
@@ -32,11 +34,13 @@ form-pairs-requires c κs = search needs
 
 form-lines-requires : tie.Need-form-lines-requires
 form-lines-requires c κs =
-    let start = c .before .before .before .before .before .before .before .before .before .before .before .before .before .before .before .before .before in
-    ((known (c .before .before .before .before .before), start .pre .1 .0), rw (formed (c .before .before .before .before .before)) (start .pre .1 .1))
+    let at = c .before .before .before .before .before in
+    ((known at, start at .pre .1 .0), rw (formed at) (start at .pre .1 .1))
 
 add-all : tie.Need-add-all
-add-all c = omega (arith, c .before .before .before .before .before .before .before .before .before .before .before .before .before .before .before .before .before .before .before .before .pre .0 .2, pairs-count (c .before .before .before .before .before .before .before .before .form-pairs .result), known (c .before .before .before .before .before .before .before .before) .few)
+add-all c =
+    let at = c .before .before .before .before .before .before .before .before in
+    omega (arith, start at .pre .0 .2, pairs-count (at .form-pairs .result), known at .few)
 
 same-length : tie.Need-same-length
 same-length c = search needs
@@ -46,10 +50,10 @@ same-length-2 c = search needs
 
 returns : tie.Need-returns
 returns c =
-    let a = c .before .before .before .before .before .before .before .before .before .before .before .before .before .before .before .before .before .before .before .before .args in
-    let ps = c .before .before .before .before .before .before .before .before .form-pairs .result in (
-      c .before .before .form-lines .ensures ∙ ap (λ (qs : List Pair). linesIn (a .before .register) ++ linesFrom (byKey (now (a .keys))) (now (a .sellers)) (now (a .stands)) qs (now (a .drawn))) (formed (c .before .before .before .before .before .before .before .before)),
-      ap (λ (n : ℕ). a .before .pairs + n) (sym (pairs-count ps) ∙ ap length (formed (c .before .before .before .before .before .before .before .before))),
+    let at = c .before .before .before .before .before .before .before .before in
+    let a = start at .args in (
+      c .before .before .form-lines .ensures ∙ ap (λ (qs : List Pair). linesIn (a .before .register) ++ linesFrom (byKey (now (a .keys))) (now (a .sellers)) (now (a .stands)) qs (now (a .drawn))) (formed at),
+      ap (λ (n : ℕ). a .before .pairs + n) (sym (pairs-count (at .form-pairs .result)) ∙ ap length (formed at)),
     )
 
 pub run-spec : {M : Type 1} → statement M

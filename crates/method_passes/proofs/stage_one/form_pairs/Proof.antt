@@ -13,13 +13,20 @@ Inv-loop keys buyers₀ stocks₀ turns ps₀ buyers stocks ps = Pairing (byKey 
 abbrev μ-loop : tie.MeasureT-loop
 μ-loop keys buyers₀ stocks₀ turns ps₀ buyers stocks ps = turns - ps .count
 
-turn : (c : tie.After-smaller Inv-loop μ-loop) → Turn (byKey (now (c .before .before .before .before .before .before .before .before .before .before .before .before .before .before .before .before .args .keys))) (c .before .before .before .before .before .before .before .before .before .before .before .loop .buyers) (c .before .before .before .before .before .before .before .before .before .before .before .loop .stocks) (c .before .before .before .before .before .before .before .buyer .result) (c .before .before .before .before .before .elevator .result) (c .before .before .before .read .result) (c .before .read2 .result) (c .smaller .result)
+-- where a turn begins, and where the function does
+abbrev at : tie.After-smaller Inv-loop μ-loop → tie.At-loop Inv-loop μ-loop
+at c = c .before .before .before .before .before .before .before .before .before .before .before
+
+abbrev start : tie.At-loop Inv-loop μ-loop → tie.Start Inv-loop μ-loop
+start c = c .before .before .before .before .before
+
+turn : (c : tie.After-smaller Inv-loop μ-loop) → Turn (byKey (now (start (at c) .args .keys))) (at c .loop .buyers) (at c .loop .stocks) (c .before .before .before .before .before .before .before .buyer .result) (c .before .before .before .before .before .elevator .result) (c .before .before .before .read .result) (c .before .read2 .result) (c .smaller .result)
 turn c = record { buyer = c .before .before .before .before .before .before .before .buyer .ensures; elevator = c .before .before .before .before .before .elevator .ensures; of-buyer = c .before .before .before .read .ensures; of-elevator = c .before .read2 .ensures; smaller = c .smaller .ensures }
 
-buyer-there : (c : tie.Else2 Inv-loop μ-loop) → c .before .before .before .before .before .before .before .before .buyer .result < length (c .before .before .before .before .before .before .before .before .before .before .before .before .loop .buyers)
+buyer-there : (c : tie.Else2 Inv-loop μ-loop) → c .before .before .before .before .before .before .before .before .buyer .result < length (at (c .before) .loop .buyers)
 buyer-there c = buyer-place _ (turn (c .before)) (c .if2 .left)
 
-elevator-there : (c : tie.Else2 Inv-loop μ-loop) → c .before .before .before .before .before .before .elevator .result < length (c .before .before .before .before .before .before .before .before .before .before .before .before .loop .stocks)
+elevator-there : (c : tie.Else2 Inv-loop μ-loop) → c .before .before .before .before .before .before .elevator .result < length (at (c .before) .loop .stocks)
 elevator-there c = elevator-place _ (turn (c .before)) (c .if2 .left)
 
 add-turns : tie.Need-add-turns Inv-loop μ-loop
@@ -49,19 +56,19 @@ smaller-requires : tie.Need-smaller-requires Inv-loop μ-loop
 smaller-requires c κs = search needs
 
 cast-with-pair : tie.Need-cast-with-pair Inv-loop μ-loop
-cast-with-pair c = omega (arith, buyer-there c, c .before .before .before .before .before .before .before .before .before .before .before .before .loop .inv .buyers-long, c .before .before .before .before .before .before .before .before .before .before .before .before .before .before .before .before .before .pre .0)
+cast-with-pair c = omega (arith, buyer-there c, at (c .before) .loop .inv .buyers-long, start (at (c .before)) .pre .0)
 
 cast-with-pair-2 : tie.Need-cast-with-pair-2 Inv-loop μ-loop
-cast-with-pair-2 c = omega (arith, elevator-there c, c .before .before .before .before .before .before .before .before .before .before .before .before .loop .inv .stocks-long)
+cast-with-pair-2 c = omega (arith, elevator-there c, at (c .before) .loop .inv .stocks-long)
 
 with-pair-requires : tie.Need-with-pair-requires Inv-loop μ-loop
-with-pair-requires c κs = omega (arith, c .before .before .before .before .before .before .before .before .before .before .if1 .taken, c .before .before .before .before .before .before .before .before .before .before .before .before .before .before .before .before .before .pre .0, c .before .before .before .before .before .before .before .before .before .before .before .before .before .before .before .before .before .pre .1)
+with-pair-requires c κs = omega (arith, c .before .before .before .before .before .before .before .before .before .before .if1 .taken, start (at (c .before)) .pre .0, start (at (c .before)) .pre .1)
 
 sub-buyers : tie.Need-sub-buyers Inv-loop μ-loop
 sub-buyers c = omega (arith, c .before .before .smaller .ensures)
 
 mul-buyers : tie.Need-mul-buyers Inv-loop μ-loop
-mul-buyers c = omega (arith, buyer-there (c .before), c .before .before .before .before .before .before .before .before .before .before .before .before .before .loop .inv .buyers-long, c .before .before .before .before .before .before .before .before .before .before .before .before .before .before .before .before .before .before .pre .0)
+mul-buyers c = omega (arith, buyer-there (c .before), at (c .before .before) .loop .inv .buyers-long, start (at (c .before .before)) .pre .0)
 
 slice-write-buyers : tie.Need-slice-write-buyers Inv-loop μ-loop
 slice-write-buyers c = buyer-there (c .before)
@@ -70,34 +77,34 @@ sub-stocks : tie.Need-sub-stocks Inv-loop μ-loop
 sub-stocks c = omega (arith, c .before .before .smaller .ensures)
 
 mul-stocks : tie.Need-mul-stocks Inv-loop μ-loop
-mul-stocks c = omega (arith, elevator-there (c .before), c .before .before .before .before .before .before .before .before .before .before .before .before .before .loop .inv .stocks-long)
+mul-stocks c = omega (arith, elevator-there (c .before), at (c .before .before) .loop .inv .stocks-long)
 
 slice-write-stocks : tie.Need-slice-write-stocks Inv-loop μ-loop
 slice-write-stocks c = elevator-there (c .before)
 
 loop-less : tie.Need-loop-less Inv-loop μ-loop
-loop-less c = omega (arith, c .before .before .before .before .before .before .before .before .before .before .before .if1 .taken, one-more-pair (c .before .before .before .before .before .before .before .before .before .before .before .before .before .loop .ps) (c .with-pair .result) _ (c .with-pair .ensures))
+loop-less c = omega (arith, c .before .before .before .before .before .before .before .before .before .before .before .if1 .taken, one-more-pair (at (c .before .before) .loop .ps) (c .with-pair .result) _ (c .with-pair .ensures))
 
 loop-again : tie.Need-loop-again Inv-loop μ-loop
-loop-again c = pairing-next _ _ _ _ (c .before .before .before .before .before .before .before .before .before .before .before .before .before .loop .inv) (turn (c .before .before)) (c .before .before .before .before .before .before .before .before .before .before .before .if1 .taken) (c .before .if2 .left) (c .with-pair .result) (c .with-pair .ensures)
+loop-again c = pairing-next _ _ _ _ (at (c .before .before) .loop .inv) (turn (c .before .before)) (c .before .before .before .before .before .before .before .before .before .before .before .if1 .taken) (c .before .if2 .left) (c .with-pair .result) (c .with-pair .ensures)
 
 same-length : tie.Need-same-length Inv-loop μ-loop
-same-length c = c .before .before .loop .inv .buyers-long ∙ sym (c .before .before .before .before .before .before .before .pre .1)
+same-length c = c .before .before .loop .inv .buyers-long ∙ sym (start (c .before .before) .pre .1)
 
 same-length-2 : tie.Need-same-length-2 Inv-loop μ-loop
-same-length-2 c = c .before .before .loop .inv .stocks-long ∙ sym (c .before .before .before .before .before .before .before .pre .2)
+same-length-2 c = c .before .before .loop .inv .stocks-long ∙ sym (start (c .before .before) .pre .2)
 
 returns : tie.Need-returns Inv-loop μ-loop
 returns c = pairing-end _ _ _ _ (c .before .before .loop .inv) (c .if1 .left)
 
 same-length-3 : tie.Need-same-length-3 Inv-loop μ-loop
-same-length-3 c = c .before .before .before .before .before .before .before .before .before .before .before .before .loop .inv .buyers-long ∙ sym (c .before .before .before .before .before .before .before .before .before .before .before .before .before .before .before .before .before .pre .1)
+same-length-3 c = at (c .before) .loop .inv .buyers-long ∙ sym (start (at (c .before)) .pre .1)
 
 same-length-4 : tie.Need-same-length-4 Inv-loop μ-loop
-same-length-4 c = c .before .before .before .before .before .before .before .before .before .before .before .before .loop .inv .stocks-long ∙ sym (c .before .before .before .before .before .before .before .before .before .before .before .before .before .before .before .before .before .pre .2)
+same-length-4 c = at (c .before) .loop .inv .stocks-long ∙ sym (start (at (c .before)) .pre .2)
 
 returns-2 : tie.Need-returns-2 Inv-loop μ-loop
-returns-2 c = pairing-stop _ _ _ _ (c .before .before .before .before .before .before .before .before .before .before .before .before .loop .inv) (turn (c .before)) (c .before .before .before .before .before .before .before .before .before .before .if1 .taken) (c .if2 .taken)
+returns-2 c = pairing-stop _ _ _ _ (at (c .before) .loop .inv) (turn (c .before)) (c .before .before .before .before .before .before .before .before .before .before .if1 .taken) (c .if2 .taken)
 
 pub form-pairs-spec : {M : Type 1} → statement M
 form-pairs-spec =
