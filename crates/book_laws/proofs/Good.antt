@@ -1,6 +1,6 @@
 -- The rules of the book as records of facts, and the law between them and the test `good`.
-use Rattle.numbers.proofs.Words.{ℕ, _≤_, arith, _≡_, refl, ap, Bool, true, _&&_, map, leb, eqb, length, drop, ℤ, pos, natAbs, leb-true, le-leb, eqb-true, eq-eqb, between, within, _and_, every, apart, totalℤ}
-use Rattle.rules.specs.declared.book.{Book.Book, Section.Section}
+use Rattle.numbers.proofs.Words.{ℕ, _≤_, _<_, arith, _≡_, refl, ap, Bool, true, false≢true, _&&_, map, leb, ltb, eqb, length, drop, ℤ, pos, negsuc, natAbs, leZ, ltb-true, leb-true, le-leb, eqb-true, eq-eqb, between, within, _and_, every, apart, totalℤ}
+use Rattle.rules.specs.declared.book.{Book.Book, Section.Section, Notice.Notice}
 use Rattle.numbers.proofs.Tests.{both, together}
 use Rattle.numbers.proofs.Whole.{within-zero}
 use Rattle.rules.specs.Value.{factor}
@@ -46,6 +46,28 @@ pub section-test : (trades : ℕ) (s : Section) → SectionGood trades s → Boo
 unfolding Book.sectionGood
 section-test trades s h =
     together (le-leb _ _ (h .settlement)) (together (together (eq-eqb _ _ (h .code-length)) (h .code-bytes)) (together (le-leb _ _ (h .position)) (le-leb _ _ (h .basis))))
+
+-- a notice filed
+pub record NoticeGood (held : ℕ) (n : Notice) : Type 0 where
+  pub section : n .section < held
+  pub elevator : n .elevator < 32
+  pub lots : natAbs (n .lots .0) ≤ 1_000_000
+
+few : (z : ℤ) → leZ (pos 1) z ≡ true → leZ z (pos 1_000_000) ≡ true → natAbs z ≤ 1_000_000
+few (pos n) least most = leb-true n 1_000_000 most
+few (negsuc n) least most = absurd (false≢true least)
+
+pub notice-facts : (held : ℕ) (n : Notice) → Book.noticeGood held n ≡ true → NoticeGood held n
+unfolding Book.noticeGood
+notice-facts held n e =
+    let section = both (ltb (n .section) held) _ e in
+    let elevator = both (leb (n .elevator) 31) _ (section .1) in
+    let lots = both (leZ (pos 1) (n .lots .0)) (leZ (n .lots .0) (pos 1_000_000)) (elevator .1) in
+    record {
+      section = ltb-true _ _ (section .0);
+      elevator = omega (arith, leb-true (n .elevator) 31 (elevator .0));
+      lots = few (n .lots .0) (lots .0) (lots .1);
+    }
 
 -- the whole book
 pub record Good (b : Book) : Type 0 where

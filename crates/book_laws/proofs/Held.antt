@@ -5,9 +5,9 @@ use Rattle.numbers.proofs.Lists.{Has, has-take, every-at, every-has, apart-at}
 use Rattle.numbers.proofs.Orders.{Ranks}
 use Rattle.numbers.proofs.Bytes.{same-self, before-self, before-trans, before-total}
 use Rattle.numbers.proofs.Tests.{below-or-not}
-use Rattle.rules.specs.Book.{heldSections, filedNotices, sectionAt, sectionOf, noticeAt, basisOf, sectionOfNoughts, blankNotice, sectionGood, sectionCodesAlike}
+use Rattle.rules.specs.Book.{heldSections, filedNotices, sectionAt, sectionOf, noticeAt, noticeOf, noticeGood, basisOf, sectionOfNoughts, blankNotice, sectionGood, sectionCodesAlike}
 use Rattle.rules.specs.Expiry.{lowerSectionCode}
-use Rattle.book_laws.proofs.Good.{Good, SectionGood, section-facts}
+use Rattle.book_laws.proofs.Good.{Good, SectionGood, section-facts, NoticeGood, notice-facts}
 
 module _ (b : Book) (places : length (b .sections) ≡ 128) (most : b .held ≤ 128) where
   fits : b .held ≤ length (b .sections)
@@ -42,13 +42,16 @@ held-basis b book i h = omega (arith, held-good b book i h .basis, book .trades)
 pub held-place : (b : Book) → Good b → (i : ℕ) → i < b .held → i < length (b .sections)
 held-place b book i h = omega (arith, book .held, book .section-places)
 
--- the same of a section by its number among those held
+-- the same of a section by its number among those held, and of a notice among those filed
 module _ (b : Book) (book : Good b) where
   abbrev ss : List Section
   ss = heldSections b
 
-  listed-good : (i : ℕ) → i < length ss → SectionGood (b .trades) (sectionOf ss i)
+  pub listed-good : (i : ℕ) → i < length ss → SectionGood (b .trades) (sectionOf ss i)
   listed-good i h = section-facts _ _ (every-at (sectionGood (b .trades)) ss i (sectionOfNoughts []) (book .sections) h)
+
+  pub filed-good : (k : ℕ) → k < length (filedNotices b) → NoticeGood (b .held) (noticeOf (filedNotices b) k)
+  filed-good k h = notice-facts _ _ (every-at (noticeGood (b .held)) (filedNotices b) k blankNotice (book .notices) h)
 
   pub held-codes : (i : ℕ) → i < length (heldSections b) → sectionOf (heldSections b) i .settlement < 64
   held-codes i h = omega (arith, listed-good i h .settlement)

@@ -27,32 +27,25 @@ pub fn noticed(sellers: &[u8], lots: &[u64], sums: &mut [u64])
     }
 }
 
-// Whether a section with so many lots in its notices fails (01, Expiry, 1.1).
-fn fails(s: Section, noticed: u64) -> bool
-    ensures { λ r. ⌜ r ≡ (not (s .met) || Expiry.isShort (positionOf s) and (not (s .seller) || not (eqb noticed (Expiry.size s)))) ⌝ }
-{
-    if !s.met {
-        return true;
-    }
-    let position = s.position.0;
-    if 0 <= position {
-        return false;
-    }
-    if !s.seller {
-        return true;
-    }
-    noticed != signed::size(position)
-}
-
-// The lots of a section that fails, and 0 of a sound one.
+// The lots of a section with so many lots in its notices where it fails, and 0 where it is sound (01, Expiry, 1.1; 01, Expiry, 1.2).
 fn failed(s: Section, noticed: u64) -> u64
     ensures { λ r. ⌜ r ≡ cond (not (s .met) || Expiry.isShort (positionOf s) and (not (s .seller) || not (eqb noticed (Expiry.size s)))) (Expiry.size s) 0 ⌝ }
 {
-    if !fails(s, noticed) {
+    let position = s.position.0;
+    let own = signed::size(position);
+    if !s.met {
+        return own;
+    }
+    if 0 <= position {
         return 0;
     }
-    let position = s.position.0;
-    signed::size(position)
+    if !s.seller {
+        return own;
+    }
+    if noticed == own {
+        return 0;
+    }
+    own
 }
 
 // The lots of the failing sections, and 0 for the sound, given the lots of each section's notices (01, Expiry, 1.2).

@@ -1,9 +1,9 @@
 -- What the walks over the columns add up, and what that is of the sections and the notices that have these columns.
-use Rattle.numbers.proofs.Words.{ℕ, _+_, _-_, _*_, min, _≤_, _<_, arith, _≡_, refl, ap, ap₂, _∙_, cond, eqb, List, length, take, ℤ, pos, negsuc, negℤ, natAbs, _+ℤ_, listed, entry, entryℤ}
+use Rattle.numbers.proofs.Words.{ℕ, _-_, _*_, min, _≤_, _<_, arith, _≡_, refl, ap, ap₂, _∙_, cond, eqb, List, length, take, ℤ, pos, negsuc, negℤ, natAbs, _+ℤ_, listed, entry, entryℤ}
 use Rattle.rules.specs.declared.book.{Section.Section, Notice.Notice}
-use Rattle.numbers.proofs.Sums.{naturals, wholes}
+use Rattle.numbers.proofs.Sums.{wholes}
 use Rattle.numbers.proofs.Ranges.{sum-same, listed-same}
-use Rattle.numbers.proofs.Tally.{tally, tally-at, tally-within}
+use Rattle.numbers.proofs.Tally.{tally, tally-within}
 use Rattle.numbers.proofs.Under.{under-within}
 use Rattle.numbers.proofs.Whole.{size, negated, sum-within}
 use Rattle.rules.specs.Book.{positionOf, sectionOf, noticeOf}
@@ -12,7 +12,7 @@ use Rattle.rules.specs.Expiry.Failing.{noticed}
 use Rattle.rules.specs.Expiry.Drawing.{drawn}
 use Rattle.rules.specs.Expiry.Passes.{sellersIn}
 use Rattle.method_laws.specs.Columns.{settlementsOf, positionsOf, noticeLotsIn}
-use Rattle.method_laws.proofs.Columns.{code-at, position-at, codes-long, seller-at, lots-at, sellers-long, noticed-read}
+use Rattle.method_laws.proofs.Columns.{code-at, position-at, codes-long, seller-at, lots-at, sellers-long, noticedFirst, noticed-at}
 
 onSide-size : (z : ℤ) (n : ℕ) → natAbs (onSideOf z n) ≡ n
 onSide-size (pos m) n = refl
@@ -44,24 +44,17 @@ module _ (codes : List ℕ) (positions : List ℤ) (lots : List ℕ) where
       sum-same _+ℤ_ (pos 0) wholes (length ss) _ _
       (λ i l. ap₂ (λ (code : ℕ) (position : ℤ). cond (eqb code c) (onSideOf position (entry lots i)) (pos 0)) (code-at ss e i) (position-at ss p i)))
 
--- the lots of each section's notices among the first k
-abbrev pub filedBefore : List ℕ → List ℕ → ℕ → List ℕ
-filedBefore sellers lots = tally _+_ 0 naturals (entry sellers) (entry lots) 128
-
-pub before-within : (sellers lots : List ℕ) (limit : ℕ) → ((k : ℕ) → entry lots k ≤ limit) → (k i : ℕ) → entry (filedBefore sellers lots k) i ≤ limit * k
-before-within sellers lots = tally-within _+_ 0 naturals (entry sellers) (entry lots) 128 (λ (n : ℕ). n) refl (λ x y. omega arith)
-
 module _ (positions : List ℤ) (sellers lots first : List ℕ) where
   -- what notice k has of its section's first lots
   abbrev pub piece : ℕ → ℕ
   piece k =
       let i = entry sellers k in
-      cond (isShort (entryℤ positions i)) (min (entry lots k) (entry first i - entry (filedBefore sellers lots k) i)) 0
+      cond (isShort (entryℤ positions i)) (min (entry lots k) (entry first i - entry (noticedFirst 128 sellers lots k) i)) 0
 
   pub piece-within : (k : ℕ) → piece k ≤ entry lots k
   piece-within k =
       let i = entry sellers k in
-      omega (arith, under-within (isShort (entryℤ positions i)) (min (entry lots k) (entry first i - entry (filedBefore sellers lots k) i)))
+      omega (arith, under-within (isShort (entryℤ positions i)) (min (entry lots k) (entry first i - entry (noticedFirst 128 sellers lots k) i)))
 
   -- all of them
   pub pieces-all : (ss : List Section) (ns : List Notice) → positions ≡ positionsOf ss → sellers ≡ sellersIn ns → lots ≡ noticeLotsIn ns → ((k : ℕ) → k < length sellers → entry sellers k < 128) → listed (length sellers) piece ≡ drawn ss ns first
@@ -71,6 +64,5 @@ module _ (positions : List ℤ) (sellers lots first : List ℕ) where
       ∙ listed-same (length ns) _ _
       (λ k h.
       let i = entry sellers k in
-      let room = small k (omega (arith, h, sellers-long ns e)) in
-      ap₂ (λ (own filed : ℕ). cond (isShort (entryℤ positions i)) (min own (entry first i - filed)) 0) (lots-at ns l k) (tally-at _+_ 0 naturals (entry sellers) (entry lots) 128 k i room ∙ noticed-read ns e l k (omega (arith, h)) i)
+      ap₂ (λ (own filed : ℕ). cond (isShort (entryℤ positions i)) (min own (entry first i - filed)) 0) (lots-at ns l k) (noticed-at 128 ns sellers lots e l k (omega (arith, h)) i (small k (omega (arith, h, sellers-long ns e))))
       ∙ ap₂ (λ (position : ℤ) (j : ℕ). cond (isShort position) (min (natAbs (noticeOf ns k .lots .0)) (entry first j - noticed (take k ns) j)) 0) (position-at ss p i ∙ ap (λ (j : ℕ). positionOf (sectionOf ss j)) (seller-at ns e k)) (seller-at ns e k))

@@ -1,5 +1,5 @@
 -- Lists by number: what `listed` holds, and sums over the numbers below n, stated once over what is summed.
-use Rattle.numbers.proofs.Words.{ℕ, zero, suc, _+_, _-_, _≤_, _<_, add-zero, zero-add, not-suc-le-zero, le-of-suc-le-suc, arith, _≡_, refl, sym, ap, ap₂, _∙_, Bool, true, false, cond, List, [], _∷_, _++_, map, map-map, flatMap, ⊎-elim, eqb, length, getD, set, length-map, List·getD-eq-default, getD-set-same, getD-set-other, eq-eqb, ne-eqb, counted, listed, entry, less, pos, _+ℤ_, _-ℤ_, gathered, total, totalℤ}
+use Rattle.numbers.proofs.Words.{ℕ, zero, suc, _+_, _-_, _≤_, _<_, add-zero, zero-add, not-suc-le-zero, le-of-suc-le-suc, arith, _≡_, refl, sym, ap, ap₂, _∙_, Bool, true, false, cond, List, [], _∷_, _++_, map, map-map, flatMap, ⊎-elim, eqb, length, getD, set, take, length-map, length-take-le, getD-take, List·getD-eq-default, getD-set-same, getD-set-other, eq-eqb, ne-eqb, counted, listed, entry, less, pos, _+ℤ_, _-ℤ_, gathered, total, totalℤ}
 use Rattle.numbers.proofs.Sums.{Addition, naturals, total-last, total-map, total-kept, total-difference, measured}
 use Rattle.numbers.proofs.Changed.{read-at}
 use Rattle.numbers.proofs.Tests.{same-or-not, below-or-not}
@@ -55,6 +55,13 @@ listed-known n xs d f long same =
 -- and what is read of them
 pub listed-read : {A B : Type 0} (f : A → B) (xs : List A) (d : A) → listed (length xs) (λ (i : ℕ). f (getD xs i d)) ≡ map f xs
 listed-read f xs d = sym (map-map f (λ (i : ℕ). getD xs i d) (counted 0 (length xs))) ∙ ap (map f) (listed-entries xs d)
+
+-- of the first n of them
+pub listed-front : {A B : Type 0} (f : A → B) (xs : List A) (d : A) (n : ℕ) → n ≤ length xs → listed n (λ (i : ℕ). f (getD xs i d)) ≡ map f (take n xs)
+listed-front f xs d n h =
+    listed-same n _ _ (λ i l. ap f (sym (getD-take n xs i d l)))
+    ∙ ap (λ (m : ℕ). listed m (λ (i : ℕ). f (getD (take n xs) i d))) (sym (length-take-le n xs h))
+    ∙ listed-read f (take n xs) d
 
 module _ {A : Type 0} (n : ℕ) (f : ℕ → A) where
   pub listed-length : length (listed n f) ≡ n

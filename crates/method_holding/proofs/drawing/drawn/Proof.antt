@@ -6,12 +6,13 @@ use Rattle.numbers.proofs.Ranges.{listed-most}
 use Rattle.numbers.proofs.Tally.{tally-none, tally-next}
 use Rattle.numbers.proofs.Whole.{read-as}
 use Rattle.rules.specs.Expiry.{isShort}
-use Rattle.method_holding.proofs.Laws.{filedBefore, before-within, piece, piece-within, pieces-all}
+use Rattle.method_laws.proofs.Columns.{noticedFirst, noticed-within}
+use Rattle.method_holding.proofs.Laws.{piece, piece-within, pieces-all}
 use Rattle.method_holding.proofs.drawing.drawn.Statement.{statement}
 use Rattle.method_holding.proofs.drawing.drawn.Tie as tie
 
 abbrev Inv-loop : tie.InvT-loop
-Inv-loop positions sellers lots first out₀ filed before₀ k₀ out before k = Filled (piece positions sellers lots first) out₀ out k × (before ≡ filedBefore sellers lots k)
+Inv-loop positions sellers lots first out₀ filed before₀ k₀ out before k = Filled (piece positions sellers lots first) out₀ out k × (before ≡ noticedFirst 128 sellers lots k)
 
 abbrev μ-loop : tie.MeasureT-loop
 μ-loop positions sellers lots first out₀ filed before₀ k₀ out before k = filed - k
@@ -27,7 +28,7 @@ module _ (c : tie.At-loop Inv-loop μ-loop) where
   own = entry (start .args .lots .now) (c .loop .k)
 
   used-within : entry (c .loop .before) seller ≤ 1_000_000 * c .loop .k
-  used-within = omega (arith, ap (λ (before : List ℕ). entry before seller) (c .loop .inv .1), before-within (start .args .sellers .now) (start .args .lots .now) 1_000_000 (start .pre .1 .1) (c .loop .k) seller)
+  used-within = omega (arith, ap (λ (before : List ℕ). entry before seller) (c .loop .inv .1), noticed-within 128 (start .args .sellers .now) (start .args .lots .now) 1_000_000 (start .pre .1 .1) (c .loop .k) seller)
 
 module _ (c : tie.In-loop Inv-loop μ-loop) where
   place : c .before .loop .k < 256
