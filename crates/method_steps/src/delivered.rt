@@ -1,7 +1,6 @@
 // Steps 1 to 3 together.
 ghost use Rattle.rules.specs.Words.{ℕ, List, _≡_, map, _≤_, natAbs, length, entry, entryℤ, less};
 ghost use Rattle.rules.specs.declared.book.{Section.Section, Notice.Notice};
-ghost use Rattle.rules.specs.Expiry;
 ghost use Rattle.rules.specs.Expiry.Across;
 ghost use Rattle.rules.specs.Expiry.Call;
 ghost use Rattle.rules.specs.Expiry.Codes;

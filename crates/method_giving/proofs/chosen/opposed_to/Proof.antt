@@ -3,7 +3,7 @@ use Rattle.numbers.proofs.Words.{needs, ℕ, _-_, arith, _≡_, ap, _∙_, Bool
 use Rattle.numbers.proofs.Filled.{Filled, filled-none, filled-next, filled-length, filled-end}
 use Rattle.numbers.proofs.Whole.{read-back}
 use Rattle.rules.specs.declared.book.{Section.Section}
-use Rattle.rules.specs.Expiry.{opposed, chosen}
+use Rattle.rules.specs.Expiry.{opposed}
 use Rattle.rules.specs.Book.{positionOf}
 use Rattle.method_laws.proofs.Columns.{position-at, positions-long}
 use Rattle.method_giving.proofs.Laws.{lotsChosen, chosen-by}

@@ -1,5 +1,5 @@
 -- The loop's invariant: the first i entries are what is left of them, and the others are as they were.
-use Rattle.numbers.proofs.Words.{needs, ℕ, _-_, arith, refl, ap, _∙_, length, now, entry}
+use Rattle.numbers.proofs.Words.{needs, ℕ, _-_, arith, refl, ap, _∙_, now, entry}
 use Rattle.numbers.proofs.Filled.{Filled, filled-none, filled-next, filled-here, filled-length, filled-end}
 use Rattle.method_giving.proofs.lists.less.Statement.{statement}
 use Rattle.method_giving.proofs.lists.less.Tie as tie

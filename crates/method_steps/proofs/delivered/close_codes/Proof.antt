@@ -1,5 +1,5 @@
 -- The calls' `ensures`, one after the other.
-use Rattle.numbers.proofs.Words.{needs, ℕ, _≤_, arith, _≡_, refl, sym, ap, _∙_, List, length, length-take-le, ℤ, pos, _+ℤ_, now, toZ-ofZ, entry, entryℤ, listed, less, totalℤ}
+use Rattle.numbers.proofs.Words.{needs, ℕ, _≤_, arith, refl, sym, ap, _∙_, List, length, length-take-le, ℤ, pos, _+ℤ_, now, toZ-ofZ, entry, entryℤ, listed, less, totalℤ}
 use Rattle.numbers.proofs.Ranges.{listed-at, listed-same, less-at}
 use Rattle.rules.specs.Expiry.{netOfCode}
 use Rattle.rules.specs.Expiry.Codes.{givenInCodes}

@@ -1,5 +1,5 @@
 -- The calls' `ensures`, one after the other.
-use Rattle.numbers.proofs.Words.{needs, ℕ, _≤_, arith, _≡_, sym, ap, ap₂, subst, _∙_, List, length, replicate, length-take-le, now, entry, total}
+use Rattle.numbers.proofs.Words.{needs, ℕ, _≤_, arith, sym, ap, ap₂, subst, _∙_, List, length, replicate, length-take-le, now, entry, total}
 use Rattle.numbers.proofs.Ranges.{listed-length}
 use Rattle.rules.specs.Expiry.{lowerSectionCode}
 use Rattle.method_laws.specs.Giving.{sooner, inOrder, taken}

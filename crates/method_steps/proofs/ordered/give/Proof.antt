@@ -1,7 +1,6 @@
 -- The order that the first call leaves in the front of the local list is what the second call gives by.
 use Rattle.numbers.proofs.Words.{needs, ℕ, _≤_, _<_, arith, _≡_, sym, ap, ap₂, subst, _∙_, List, length, replicate, length-replicate, length-take-le, now, entry}
 use Rattle.numbers.proofs.Entries.{noughts-at}
-use Rattle.rules.specs.Expiry.{lowerSectionCode}
 use Rattle.method_laws.specs.Columns.{byKey}
 use Rattle.method_laws.specs.Giving.{sooner, inOrder, taken, takenFrom}
 use Rattle.method_laws.proofs.Columns.{codes-long, order-by-keys}
