@@ -1,11 +1,11 @@
 // Step 1: who fails.
-ghost use Rattle.rules.specs.Words.{ℕ, List, _≡_, true, not, cond, _||_, _and_, _≤_, _<_, eqb, length, replicate, listed, entry};
+ghost use Rattle.rules.specs.Words.{List, _≡_, true, not, cond, _||_, _and_, _≤_, eqb, length, replicate, listed};
 ghost use Rattle.rules.specs.declared.book.Notice.{Notice};
 ghost use Rattle.rules.specs.Book.{good, heldSections, filedNotices, positionOf};
 ghost use Rattle.rules.specs.Expiry;
 ghost use Rattle.rules.specs.Expiry.Failing;
 ghost use Rattle.rules.specs.Expiry.Passes.{sellersIn};
-ghost use Rattle.method_laws.specs.Columns.{noticeLotsIn};
+ghost use Rattle.method_laws.specs.Columns.{noticeLotsIn, Below, Small};
 use rules::book::Book;
 use rules::book::Section;
 use value::signed;
@@ -13,7 +13,7 @@ use value::signed;
 // The lots of each section's notices, in one walk over the notices; `sums` is noughts at first (01, Expiry, 1.1).
 pub fn noticed(sellers: &[u8], lots: &[u64], sums: &mut [u64])
     requires { ⌜ (length (now sellers) ≤ 256) × (length (now lots) ≡ length (now sellers)) × (now sums ≡ replicate (length (now sums)) 0) ⌝ }
-    requires { ⌜ ((k : ℕ) → k < length (now sellers) → entry (now sellers) k < length (now sums)) × ((k : ℕ) → entry (now lots) k ≤ 1_000_000) ⌝ }
+    requires { ⌜ Below (length (now sums)) (now sellers) × Small (now lots) ⌝ }
     ensures { λ _. ⌜ ((ns : List Notice) → now (sellers .entry) ≡ sellersIn ns → now (lots .entry) ≡ noticeLotsIn ns → now (sums .exit) ≡ listed (length (now (sums .entry))) (Failing.noticed ns)) ⌝ }
 {
     let filed = sellers.len();

@@ -1,9 +1,9 @@
 // The lots of the sections that a step takes, and 0 for all others.
-ghost use Rattle.rules.specs.Words.{ℕ, List, _≡_, _≤_, _<_, cond, length, entry, entryℤ};
+ghost use Rattle.rules.specs.Words.{List, _≡_, cond, length, entryℤ};
 ghost use Rattle.rules.specs.declared.book.Section.{Section};
 ghost use Rattle.rules.specs.Book.{positionOf};
 ghost use Rattle.rules.specs.Expiry;
-ghost use Rattle.method_laws.specs.Columns.{settlementsOf, positionsOf};
+ghost use Rattle.method_laws.specs.Columns.{settlementsOf, positionsOf, AtMost, Below};
 ghost use Rattle.method_laws.specs.Giving.{onSide};
 
 // Whether two numbers are on opposite sides.
@@ -66,9 +66,9 @@ pub fn on_side_in_codes(
     out: &mut [u64],
 )
     requires { ⌜ (length (now codes) ≡ length (now lots)) × (length (now positions) ≡ length (now lots)) × (length (now out) ≡ length (now lots)) × (length (now numbers) ≡ 64) ⌝ }
-    requires { ⌜ ((i : ℕ) → i < length (now codes) → entry (now codes) i < 64) ⌝ }
+    requires { ⌜ Below 64 (now codes) ⌝ }
     ensures { λ _. ⌜ ((ss : List Section) → now (codes .entry) ≡ settlementsOf ss → now (positions .entry) ≡ positionsOf ss → now (out .exit) ≡ Expiry.chosen ss (λ (s : Section). onSide same (positionOf s) (entryℤ (now (numbers .entry)) (s .settlement))) (now (lots .entry))) ⌝ }
-    ensures { λ _. ⌜ ((i : ℕ) → entry (now (out .exit)) i ≤ entry (now (lots .entry)) i) ⌝ }
+    ensures { λ _. ⌜ AtMost (now (out .exit)) (now (lots .entry)) ⌝ }
 {
     let held = lots.len();
     let mut i = 0;

@@ -1,7 +1,7 @@
 // Sections of an order give what they have, while their code's cap and the whole need last.
-ghost use Rattle.rules.specs.Words.{ℕ, List, _≡_, _≤_, _<_, length, entry};
+ghost use Rattle.rules.specs.Words.{List, _≡_, length};
 ghost use Rattle.rules.specs.declared.book.Section.{Section};
-ghost use Rattle.method_laws.specs.Columns.{settlementsOf};
+ghost use Rattle.method_laws.specs.Columns.{settlementsOf, AtMost, Below};
 ghost use Rattle.method_laws.specs.Giving.{takenFrom};
 use value::lots::smaller;
 
@@ -15,10 +15,10 @@ pub fn give(
     given: &mut [u64],
 )
     requires { ⌜ (length (now codes) ≡ length (now lots)) × (length (now given) ≡ length (now lots)) × (length (now caps) ≡ 64) ⌝ }
-    requires { ⌜ ((k : ℕ) → k < length (now order) → entry (now order) k < length (now lots)) × ((i : ℕ) → i < length (now codes) → entry (now codes) i < 64) ⌝ }
-    requires { ⌜ ((i : ℕ) → entry (now given) i ≤ entry (now lots) i) ⌝ }
+    requires { ⌜ Below (length (now lots)) (now order) × Below 64 (now codes) ⌝ }
+    requires { ⌜ AtMost (now given) (now lots) ⌝ }
     ensures { λ _. ⌜ ((ss : List Section) → now (codes .entry) ≡ settlementsOf ss → now (given .exit) ≡ takenFrom ss (now (order .entry)) (now (lots .entry)) (now (caps .entry)) need (now (given .entry))) ⌝ }
-    ensures { λ _. ⌜ ((i : ℕ) → entry (now (given .exit)) i ≤ entry (now (lots .entry)) i) ⌝ }
+    ensures { λ _. ⌜ AtMost (now (given .exit)) (now (lots .entry)) ⌝ }
 {
     let all = order.len();
     let mut left = need;

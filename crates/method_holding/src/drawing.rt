@@ -1,9 +1,9 @@
 // Step 5: what is drawn of the notices.
-ghost use Rattle.rules.specs.Words.{ℕ, List, _≡_, _≤_, _<_, _-_, min, cond, length, entry};
+ghost use Rattle.rules.specs.Words.{List, _≡_, _≤_, _-_, min, cond, length};
 ghost use Rattle.rules.specs.declared.book.{Section.Section, Notice.Notice};
 ghost use Rattle.rules.specs.Expiry;
 ghost use Rattle.rules.specs.Expiry.Drawing;
-ghost use Rattle.method_laws.specs.Columns.{positionsOf, noticeLotsIn};
+ghost use Rattle.method_laws.specs.Columns.{positionsOf, noticeLotsIn, Below, Small};
 ghost use Rattle.rules.specs.Expiry.Passes.{sellersIn};
 use rules::limits::SECTION_PLACES;
 use value::lots::smaller;
@@ -24,9 +24,9 @@ fn share(position: i64, own: u64, first: u64, before: u64) -> u64
 // What each notice has of its section's first lots, in one walk over the notices (01, Expiry, 5.1; 01, Expiry, 6.5).
 pub fn drawn(positions: &[i64], sellers: &[u8], lots: &[u64], first: &[u64], out: &mut [u64])
     requires { ⌜ (length (now positions) ≤ 128) × (length (now first) ≡ length (now positions)) × (length (now sellers) ≤ 256) × (length (now lots) ≡ length (now sellers)) × (length (now out) ≡ length (now sellers)) ⌝ }
-    requires { ⌜ ((k : ℕ) → k < length (now sellers) → entry (now sellers) k < length (now positions)) × ((k : ℕ) → entry (now lots) k ≤ 1_000_000) ⌝ }
+    requires { ⌜ Below (length (now positions)) (now sellers) × Small (now lots) ⌝ }
     ensures { λ _. ⌜ ((ss : List Section) (ns : List Notice) → now (positions .entry) ≡ positionsOf ss → now (sellers .entry) ≡ sellersIn ns → now (lots .entry) ≡ noticeLotsIn ns → now (out .exit) ≡ Drawing.drawn ss ns (now (first .entry))) ⌝ }
-    ensures { λ _. ⌜ ((k : ℕ) → entry (now (out .exit)) k ≤ 1_000_000) ⌝ }
+    ensures { λ _. ⌜ Small (now (out .exit)) ⌝ }
 {
     let filed = sellers.len();
     let mut before = [0; SECTION_PLACES];

@@ -1,6 +1,6 @@
 -- What the method's code reads of the sections held and of the notices filed: columns, a list of numbers each. Contracts speak of every list of sections, or of
 -- notices, that has these columns.
-use Rattle.rules.specs.Words.{ℕ, _<_, _≡_, Bool, List, map, length, ltb, ℤ, natAbs, entry}
+use Rattle.rules.specs.Words.{ℕ, _<_, _≡_, Bool, List, map, length, ltb, ℤ, natAbs, entry, _≤_, entryℤ}
 use Rattle.numbers.specs.Bytes.{bigEndian}
 use Rattle.rules.specs.declared.book.{Section.Section, Notice.Notice}
 use Rattle.rules.specs.Book.{positionOf}
@@ -24,6 +24,19 @@ byKey keys i j = ltb (entry keys i) (entry keys j)
 -- of the notices: sellers and elevators (`sellersIn`, `elevatorsIn`), and lots
 abbrev pub noticeLotsIn : List Notice → List ℕ
 noticeLotsIn = map (λ (n : Notice). natAbs (n .lots .0))
+
+-- what contracts ask of a column: each number below another; lots within a position's limit; no more than another list has; nets within 128 positions
+abbrev pub Below : ℕ → List ℕ → Type 0
+Below n xs = (i : ℕ) → i < length xs → entry xs i < n
+
+abbrev pub Small : List ℕ → Type 0
+Small xs = (i : ℕ) → entry xs i ≤ 1_000_000
+
+abbrev pub AtMost : List ℕ → List ℕ → Type 0
+AtMost xs ys = (i : ℕ) → entry xs i ≤ entry ys i
+
+abbrev pub NetsSmall : List ℤ → Type 0
+NetsSmall zs = (c : ℕ) → natAbs (entryℤ zs c) ≤ 128_000_000
 
 -- the sections have these columns
 pub record Columns (ss : List Section) (codes : List ℕ) (positions : List ℤ) (keys : List ℕ) : Type 0 where

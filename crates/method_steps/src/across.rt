@@ -1,9 +1,9 @@
 // Step 3: what is left open is closed over all codes together.
-ghost use Rattle.rules.specs.Words.{ℕ, List, _≡_, cond, _≤_, natAbs, _+ℤ_, length, replicate, entry, entryℤ, listed, totalℤ};
+ghost use Rattle.rules.specs.Words.{ℕ, List, _≡_, cond, natAbs, _+ℤ_, length, replicate, entryℤ, listed, totalℤ};
 ghost use Rattle.rules.specs.declared.book.Section.{Section};
 ghost use Rattle.rules.specs.Expiry;
 ghost use Rattle.rules.specs.Expiry.Across;
-ghost use Rattle.method_laws.specs.Columns.{Columns};
+ghost use Rattle.method_laws.specs.Columns.{Columns, NetsSmall, Small};
 ghost use Rattle.method_steps.specs.Held.{Held};
 use crate::ordered;
 use method_giving::chosen;
@@ -15,7 +15,7 @@ use value::signed;
 // D: what is left of all D(c), summed with sign (01, Expiry, 3.1).
 pub fn left_open(gaps: &[i64], nets: &[i64]) -> i64
     requires { ⌜ (length (now gaps) ≡ 64) × (length (now nets) ≡ 64) ⌝ }
-    requires { ⌜ ((c : ℕ) → natAbs (entryℤ (now gaps) c) ≤ 128_000_000) × ((c : ℕ) → natAbs (entryℤ (now nets) c) ≤ 128_000_000) ⌝ }
+    requires { ⌜ NetsSmall (now gaps) × NetsSmall (now nets) ⌝ }
     ensures { λ r. ⌜ r ≡ totalℤ (listed 64 (λ (c : ℕ). entryℤ (now (gaps .entry)) c +ℤ entryℤ (now (nets .entry)) c)) ⌝ }
 {
     let mut d: i64 = 0;
@@ -61,7 +61,7 @@ pub fn give_across(
     left: &[u64],
     given: &mut [u64],
 )
-    requires { ⌜ Held (now codes) (now positions) (now keys) (length (now left)) × (now given ≡ replicate (length (now left)) 0) × ((i : ℕ) → entry (now left) i ≤ 1_000_000) ⌝ }
+    requires { ⌜ Held (now codes) (now positions) (now keys) (length (now left)) × (now given ≡ replicate (length (now left)) 0) × Small (now left) ⌝ }
     ensures { λ _. ⌜ ((ss : List Section) → Columns ss (now (codes .entry)) (now (positions .entry)) (now (keys .entry)) → now (given .exit) ≡ Across.givenAcross ss d (now (left .entry))) ⌝ }
 {
     let held = left.len();

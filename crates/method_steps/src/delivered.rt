@@ -1,11 +1,11 @@
 // Steps 1 to 3 together.
-ghost use Rattle.rules.specs.Words.{ℕ, List, _≡_, map, _≤_, natAbs, length, entry, entryℤ, less};
+ghost use Rattle.rules.specs.Words.{List, _≡_, map, natAbs, length, less};
 ghost use Rattle.rules.specs.declared.book.{Section.Section, Notice.Notice};
 ghost use Rattle.rules.specs.Expiry.Across;
 ghost use Rattle.rules.specs.Expiry.Call;
 ghost use Rattle.rules.specs.Expiry.Codes;
 ghost use Rattle.rules.specs.Expiry.Failing;
-ghost use Rattle.method_laws.specs.Columns.{Columns};
+ghost use Rattle.method_laws.specs.Columns.{Columns, NetsSmall, Small};
 ghost use Rattle.method_steps.specs.Held.{Held};
 use crate::across;
 use crate::in_codes;
@@ -17,10 +17,10 @@ use rules::limits::SETTLEMENT_CODES;
 // Step 2: what is left when the codes are closed, and D (01, Expiry, 2.2; 01, Expiry, 3.1).
 fn close_codes(codes: &[u8], positions: &[i64], keys: &[u64], gaps: &[i64], kept: &mut [u64]) -> i64
     requires { ⌜ Held (now codes) (now positions) (now keys) (length (now kept)) × (length (now gaps) ≡ 64) ⌝ }
-    requires { ⌜ ((c : ℕ) → natAbs (entryℤ (now gaps) c) ≤ 128_000_000) × ((i : ℕ) → entry (now kept) i ≤ 1_000_000) ⌝ }
+    requires { ⌜ NetsSmall (now gaps) × Small (now kept) ⌝ }
     ensures { λ _. ⌜ ((ss : List Section) → Columns ss (now (codes .entry)) (now (positions .entry)) (now (keys .entry)) → now (kept .exit) ≡ less (now (kept .entry)) (Codes.givenInCodes ss (now (gaps .entry)) (now (kept .entry)))) ⌝ }
     ensures { λ r. ⌜ ((ss : List Section) → Columns ss (now (codes .entry)) (now (positions .entry)) (now (keys .entry)) → r ≡ Across.dOverall ss (now (gaps .entry)) (Codes.givenInCodes ss (now (gaps .entry)) (now (kept .entry)))) ⌝ }
-    ensures { λ _. ⌜ ((i : ℕ) → entry (now (kept .exit)) i ≤ 1_000_000) ⌝ }
+    ensures { λ _. ⌜ Small (now (kept .exit)) ⌝ }
 {
     let held = kept.len();
     let mut given = [0; SECTION_PLACES];
@@ -41,9 +41,9 @@ fn close_codes(codes: &[u8], positions: &[i64], keys: &[u64], gaps: &[i64], kept
 
 // Step 3: what is left when d is closed (01, Expiry, 3.3).
 fn close_across(codes: &[u8], positions: &[i64], keys: &[u64], d: i64, kept: &mut [u64])
-    requires { ⌜ Held (now codes) (now positions) (now keys) (length (now kept)) × ((i : ℕ) → entry (now kept) i ≤ 1_000_000) ⌝ }
+    requires { ⌜ Held (now codes) (now positions) (now keys) (length (now kept)) × Small (now kept) ⌝ }
     ensures { λ _. ⌜ ((ss : List Section) → Columns ss (now (codes .entry)) (now (positions .entry)) (now (keys .entry)) → now (kept .exit) ≡ less (now (kept .entry)) (Across.givenAcross ss d (now (kept .entry)))) ⌝ }
-    ensures { λ _. ⌜ ((i : ℕ) → entry (now (kept .exit)) i ≤ 1_000_000) ⌝ }
+    ensures { λ _. ⌜ Small (now (kept .exit)) ⌝ }
 {
     let held = kept.len();
     let mut more = [0; SECTION_PLACES];
@@ -53,9 +53,9 @@ fn close_across(codes: &[u8], positions: &[i64], keys: &[u64], d: i64, kept: &mu
 
 // What each section delivers, given what the failing sections have (01, Expiry, 1.2).
 pub fn delivered(codes: &[u8], positions: &[i64], keys: &[u64], failed: &[u64], kept: &mut [u64])
-    requires { ⌜ Held (now codes) (now positions) (now keys) (length (now kept)) × (length (now failed) ≡ length (now kept)) × ((i : ℕ) → entry (now failed) i ≤ 1_000_000) ⌝ }
+    requires { ⌜ Held (now codes) (now positions) (now keys) (length (now kept)) × (length (now failed) ≡ length (now kept)) × Small (now failed) ⌝ }
     ensures { λ _. ⌜ ((ss : List Section) (ns : List Notice) → Columns ss (now (codes .entry)) (now (positions .entry)) (now (keys .entry)) → now (failed .entry) ≡ Failing.failing ss ns → now (kept .exit) ≡ Call.delivered ss ns) ⌝ }
-    ensures { λ _. ⌜ ((i : ℕ) → entry (now (kept .exit)) i ≤ 1_000_000) ⌝ }
+    ensures { λ _. ⌜ Small (now (kept .exit)) ⌝ }
 {
     let mut gaps = [0; SETTLEMENT_CODES];
     nets::nets(codes, positions, failed, &mut gaps);

@@ -1,7 +1,7 @@
 // Steps 2 and 4: each settlement code by itself.
-ghost use Rattle.rules.specs.Words.{ℕ, List, _≡_, _≤_, natAbs, length, replicate, entry, entryℤ};
+ghost use Rattle.rules.specs.Words.{List, _≡_, length, replicate};
 ghost use Rattle.rules.specs.declared.book.Section.{Section};
-ghost use Rattle.method_laws.specs.Columns.{Columns};
+ghost use Rattle.method_laws.specs.Columns.{Columns, AtMost, NetsSmall};
 ghost use Rattle.method_laws.specs.Giving;
 ghost use Rattle.method_steps.specs.Held.{Held};
 use crate::ordered;
@@ -21,9 +21,9 @@ pub fn give(
     given: &mut [u64],
 )
     requires { ⌜ Held (now codes) (now positions) (now keys) (length (now kept)) × (length (now numbers) ≡ 64) × (now given ≡ replicate (length (now kept)) 0) ⌝ }
-    requires { ⌜ ((c : ℕ) → natAbs (entryℤ (now numbers) c) ≤ 128_000_000) ⌝ }
+    requires { ⌜ NetsSmall (now numbers) ⌝ }
     ensures { λ _. ⌜ ((ss : List Section) → Columns ss (now (codes .entry)) (now (positions .entry)) (now (keys .entry)) → now (given .exit) ≡ Giving.givenBySize outside ss (now (numbers .entry)) (now (kept .entry))) ⌝ }
-    ensures { λ _. ⌜ ((i : ℕ) → entry (now (given .exit)) i ≤ entry (now (kept .entry)) i) ⌝ }
+    ensures { λ _. ⌜ AtMost (now (given .exit)) (now (kept .entry)) ⌝ }
 {
     let held = kept.len();
     let mut lots = [0; SECTION_PLACES];

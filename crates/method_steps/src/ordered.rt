@@ -1,8 +1,8 @@
 // Sections put in an order give what they have.
-ghost use Rattle.rules.specs.Words.{ℕ, List, _≡_, _≤_, length, replicate, entry};
+ghost use Rattle.rules.specs.Words.{List, _≡_, length, replicate};
 ghost use Rattle.rules.specs.declared.book.Section.{Section};
 ghost use Rattle.rules.specs.Expiry.{lowerSectionCode};
-ghost use Rattle.method_laws.specs.Columns.{Columns};
+ghost use Rattle.method_laws.specs.Columns.{Columns, AtMost};
 ghost use Rattle.method_laws.specs.Giving;
 ghost use Rattle.method_steps.specs.Held.{Held};
 use method_giving::taken;
@@ -21,7 +21,7 @@ pub fn give(
 )
     requires { ⌜ Held (now codes) (now positions) (now keys) (length (now lots)) × (now given ≡ replicate (length (now lots)) 0) × (length (now caps) ≡ 64) ⌝ }
     ensures { λ _. ⌜ ((ss : List Section) → Columns ss (now (codes .entry)) (now (positions .entry)) (now (keys .entry)) → now (given .exit) ≡ Giving.taken ss (Giving.inOrder (Giving.sooner larger) (lowerSectionCode ss) (now (lots .entry)) (length ss)) (now (lots .entry)) (now (caps .entry)) need) ⌝ }
-    ensures { λ _. ⌜ ((i : ℕ) → entry (now (given .exit)) i ≤ entry (now (lots .entry)) i) ⌝ }
+    ensures { λ _. ⌜ AtMost (now (given .exit)) (now (lots .entry)) ⌝ }
 {
     let held = lots.len();
     let mut order = [0; SECTION_PLACES];
