@@ -1,8 +1,8 @@
 -- Giving as the code does it: one section after the other. What the definitions say of it is proved equal in proofs/Shares.
-use Rattle.rules.specs.Words.{ℕ, _-_, min, Bool, cond, List, [], _∷_, ltb, length, set, replicate, counted, listed, entry, ordered, ℤ}
+use Rattle.rules.specs.Words.{ℕ, _-_, min, Bool, cond, List, [], _∷_, ltb, length, set, replicate, counted, listed, entry, entryℤ, ordered, ℤ, natAbs}
 use Rattle.rules.specs.declared.book.{Section.Section}
-use Rattle.rules.specs.Book.{settlementCodes, sectionOf}
-use Rattle.rules.specs.Expiry.{opposed, agreed, earlier}
+use Rattle.rules.specs.Book.{settlementCodes, positionOf, sectionOf}
+use Rattle.rules.specs.Expiry.{opposed, agreed, chosen, earlier, sharesInCodes}
 use Rattle.rules.specs.Expiry.Across.{codeCap}
 
 -- the smaller first, or the larger
@@ -27,6 +27,11 @@ takenFrom ss (i ∷ is) lots caps need done =
 
 unfoldable pub taken : List Section → List ℕ → List ℕ → List ℕ → ℕ → List ℕ
 taken ss order lots caps need = takenFrom ss order lots caps need (replicate (length ss) 0)
+
+-- every settlement code wants the size of a number: towards D(c) from the sections on its other side, the smallest first, and outside from those on its side, the largest first
+abbrev pub givenBySize : Bool → List Section → List ℤ → List ℕ → List ℕ
+givenBySize outside ss numbers lots =
+    sharesInCodes (sooner outside) ss (chosen ss (λ (s : Section). onSide outside (positionOf s) (entryℤ numbers (s .settlement))) lots) (λ (c : ℕ). natAbs (entryℤ numbers c))
 
 -- the caps of all settlement codes, in step 3
 abbrev pub codeCaps : List Section → ℤ → List ℕ → List ℕ

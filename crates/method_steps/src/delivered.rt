@@ -9,65 +9,61 @@ ghost use Rattle.rules.specs.Expiry.Failing;
 ghost use Rattle.method_laws.specs.Columns.{Columns};
 ghost use Rattle.method_steps.specs.Held.{Held};
 use crate::across;
-use crate::codes;
+use crate::in_codes;
 use method_giving::lists;
 use method_holding::nets;
 use rules::limits::SECTION_PLACES;
 use rules::limits::SETTLEMENT_CODES;
 
 // Step 2: what is left when the codes are closed, and D (01, Expiry, 2.2; 01, Expiry, 3.1).
-fn close_codes(
-    settlements: &[u8],
-    positions: &[i64],
-    keys: &[u64],
-    gaps: &[i64],
-    kept: &mut [u64],
-) -> i64
-    requires { ⌜ Held (now settlements) (now positions) (now keys) (length (now kept)) × (length (now gaps) ≡ 64) ⌝ }
+fn close_codes(codes: &[u8], positions: &[i64], keys: &[u64], gaps: &[i64], kept: &mut [u64]) -> i64
+    requires { ⌜ Held (now codes) (now positions) (now keys) (length (now kept)) × (length (now gaps) ≡ 64) ⌝ }
     requires { ⌜ ((c : ℕ) → natAbs (entryℤ (now gaps) c) ≤ 128_000_000) × ((i : ℕ) → entry (now kept) i ≤ 1_000_000) ⌝ }
-    ensures { λ _. ⌜ ((ss : List Section) → Columns ss (now (settlements .entry)) (now (positions .entry)) (now (keys .entry)) → now (kept .exit) ≡ less (now (kept .entry)) (Codes.givenInCodes ss (now (gaps .entry)) (now (kept .entry)))) ⌝ }
-    ensures { λ r. ⌜ ((ss : List Section) → Columns ss (now (settlements .entry)) (now (positions .entry)) (now (keys .entry)) → r ≡ Across.dOverall ss (now (gaps .entry)) (Codes.givenInCodes ss (now (gaps .entry)) (now (kept .entry)))) ⌝ }
+    ensures { λ _. ⌜ ((ss : List Section) → Columns ss (now (codes .entry)) (now (positions .entry)) (now (keys .entry)) → now (kept .exit) ≡ less (now (kept .entry)) (Codes.givenInCodes ss (now (gaps .entry)) (now (kept .entry)))) ⌝ }
+    ensures { λ r. ⌜ ((ss : List Section) → Columns ss (now (codes .entry)) (now (positions .entry)) (now (keys .entry)) → r ≡ Across.dOverall ss (now (gaps .entry)) (Codes.givenInCodes ss (now (gaps .entry)) (now (kept .entry)))) ⌝ }
     ensures { λ _. ⌜ ((i : ℕ) → entry (now (kept .exit)) i ≤ 1_000_000) ⌝ }
 {
     let held = kept.len();
     let mut given = [0; SECTION_PLACES];
     let mut net = [0; SETTLEMENT_CODES];
-    codes::give_in_codes(settlements, positions, keys, gaps, kept, &mut given[..held]);
-    nets::nets(settlements, positions, &given[..held], &mut net);
+    in_codes::give(
+        codes,
+        positions,
+        keys,
+        gaps,
+        false,
+        kept,
+        &mut given[..held],
+    );
+    nets::nets(codes, positions, &given[..held], &mut net);
     lists::less(kept, &given[..held]);
     across::left_open(gaps, &net)
 }
 
 // Step 3: what is left when d is closed (01, Expiry, 3.3).
-fn close_across(settlements: &[u8], positions: &[i64], keys: &[u64], d: i64, kept: &mut [u64])
-    requires { ⌜ Held (now settlements) (now positions) (now keys) (length (now kept)) × ((i : ℕ) → entry (now kept) i ≤ 1_000_000) ⌝ }
-    ensures { λ _. ⌜ ((ss : List Section) → Columns ss (now (settlements .entry)) (now (positions .entry)) (now (keys .entry)) → now (kept .exit) ≡ less (now (kept .entry)) (Across.givenAcross ss d (now (kept .entry)))) ⌝ }
+fn close_across(codes: &[u8], positions: &[i64], keys: &[u64], d: i64, kept: &mut [u64])
+    requires { ⌜ Held (now codes) (now positions) (now keys) (length (now kept)) × ((i : ℕ) → entry (now kept) i ≤ 1_000_000) ⌝ }
+    ensures { λ _. ⌜ ((ss : List Section) → Columns ss (now (codes .entry)) (now (positions .entry)) (now (keys .entry)) → now (kept .exit) ≡ less (now (kept .entry)) (Across.givenAcross ss d (now (kept .entry)))) ⌝ }
     ensures { λ _. ⌜ ((i : ℕ) → entry (now (kept .exit)) i ≤ 1_000_000) ⌝ }
 {
     let held = kept.len();
     let mut more = [0; SECTION_PLACES];
-    across::give_across(settlements, positions, keys, d, kept, &mut more[..held]);
+    across::give_across(codes, positions, keys, d, kept, &mut more[..held]);
     lists::less(kept, &more[..held]);
 }
 
 // What each section delivers, given what the failing sections have (01, Expiry, 1.2).
-pub fn delivered(
-    settlements: &[u8],
-    positions: &[i64],
-    keys: &[u64],
-    failed: &[u64],
-    kept: &mut [u64],
-)
-    requires { ⌜ Held (now settlements) (now positions) (now keys) (length (now kept)) × (length (now failed) ≡ length (now kept)) × ((i : ℕ) → entry (now failed) i ≤ 1_000_000) ⌝ }
-    ensures { λ _. ⌜ ((ss : List Section) (ns : List Notice) → Columns ss (now (settlements .entry)) (now (positions .entry)) (now (keys .entry)) → now (failed .entry) ≡ Failing.failing ss ns → now (kept .exit) ≡ Call.delivered ss ns) ⌝ }
+pub fn delivered(codes: &[u8], positions: &[i64], keys: &[u64], failed: &[u64], kept: &mut [u64])
+    requires { ⌜ Held (now codes) (now positions) (now keys) (length (now kept)) × (length (now failed) ≡ length (now kept)) × ((i : ℕ) → entry (now failed) i ≤ 1_000_000) ⌝ }
+    ensures { λ _. ⌜ ((ss : List Section) (ns : List Notice) → Columns ss (now (codes .entry)) (now (positions .entry)) (now (keys .entry)) → now (failed .entry) ≡ Failing.failing ss ns → now (kept .exit) ≡ Call.delivered ss ns) ⌝ }
     ensures { λ _. ⌜ ((i : ℕ) → entry (now (kept .exit)) i ≤ 1_000_000) ⌝ }
 {
     let mut gaps = [0; SETTLEMENT_CODES];
-    nets::nets(settlements, positions, failed, &mut gaps);
+    nets::nets(codes, positions, failed, &mut gaps);
     lists::magnitudes(positions, kept);
     lists::less(kept, failed);
-    let d = close_codes(settlements, positions, keys, &gaps, kept);
-    close_across(settlements, positions, keys, d, kept);
+    let d = close_codes(codes, positions, keys, &gaps, kept);
+    close_across(codes, positions, keys, d, kept);
 }
 
 // What each section has terminated, of what it keeps (01, Expiry, 1.2).

@@ -41,9 +41,11 @@ give-requires c κs =
     let lots = now (start .args .lots) in (
       (start .pre .0 .codes-long, ap length (start .pre .1) ∙ length-replicate (length lots) 0, start .pre .2),
       (
-        (subst (λ (is : List ℕ). (k : ℕ) → k < length is → entry is k < length lots) (sym (front at .is))
-            (order-below (sooner (start .args .larger)) (byKey (now (start .args .keys))) lots (order at) (length lots) (at .in-order .ensures) (sym (ap length (front at .is)) ∙ front at .long)),
-        start .pre .0 .code),
+        (
+          subst (λ (is : List ℕ). (k : ℕ) → k < length is → entry is k < length lots) (sym (front at .is))
+              (order-below (sooner (start .args .larger)) (byKey (now (start .args .keys))) lots (order at) (length lots) (at .in-order .ensures) (sym (ap length (front at .is)) ∙ front at .long)),
+          start .pre .0 .code,
+        ),
         λ i. omega (arith, ap (λ (xs : List ℕ). entry xs i) (start .pre .1), noughts-at (length lots) i),
       ),
     )

@@ -1,21 +1,20 @@
 -- The calls' `ensures`, one after the other.
-use Rattle.numbers.proofs.Words.{needs, ℕ, _≤_, arith, _≡_, sym, ap, ap₂, subst, _∙_, false, List, ltb, length, replicate, length-take-le, now, entry, total}
+use Rattle.numbers.proofs.Words.{needs, ℕ, _≤_, arith, _≡_, sym, ap, ap₂, subst, _∙_, List, length, replicate, length-take-le, now, entry, total}
 use Rattle.numbers.proofs.Ranges.{listed-length}
 use Rattle.rules.specs.Expiry.{lowerSectionCode}
-use Rattle.rules.specs.Expiry.Codes.{givenInCodes}
-use Rattle.method_laws.specs.Giving.{inOrder, taken}
+use Rattle.method_laws.specs.Giving.{sooner, inOrder, taken}
 use Rattle.method_laws.proofs.Shares.{taken-sizes}
 use Rattle.method_laws.proofs.Columns.{told}
 use Rattle.method_steps.specs.Held.{Held}
 use Rattle.method_steps.proofs.Laws.{noughts, Front, front-of, sizes-small}
-use Rattle.method_steps.proofs.codes.give_in_codes.Statement.{statement}
-use Rattle.method_steps.proofs.codes.give_in_codes.Tie as tie
+use Rattle.method_steps.proofs.in_codes.give.Statement.{statement}
+use Rattle.method_steps.proofs.in_codes.give.Tie as tie
 
-few : (c : tie.Start) → length (now (c .args .sound)) ≤ 128
+few : (c : tie.Start) → length (now (c .args .kept)) ≤ 128
 few c = c .pre .0 .0 .few
 
 -- the lots that the first call leaves
-front : (c : tie.After-on-side-in-codes) → Front (length (now (c .before .before .before .before .before .before .args .sound))) (c .on-side-in-codes .last .1 .1 .1 .1 .1 .0)
+front : (c : tie.After-on-side-in-codes) → Front (length (now (c .before .before .before .before .before .before .args .kept))) (c .on-side-in-codes .last .1 .1 .1 .1 .1 .0)
 front c = front-of _ _ (few (c .before .before .before .before .before .before)) (c .on-side-in-codes .kept .1 .1 .1 .1 .1 .0)
 
 array-borrow-prefix-lots : tie.Need-array-borrow-prefix-lots
@@ -44,7 +43,7 @@ sum-requires c κs =
     let at = c .before .before in
     let start = at .before .before .before .before .before .before .before .before .before in (
       omega (arith, at .magnitudes .kept .1 .0),
-      λ i. omega (arith, ap (λ (caps : List ℕ). entry caps i) (at .magnitudes .ensures), sizes-small 128_000_000 (now (start .args .gaps)) (start .pre .1) i),
+      λ i. omega (arith, ap (λ (caps : List ℕ). entry caps i) (at .magnitudes .ensures), sizes-small 128_000_000 (now (start .args .numbers)) (start .pre .1) i),
     )
 
 array-share-prefix-lots : tie.Need-array-share-prefix-lots
@@ -70,7 +69,6 @@ same-length : tie.Need-same-length
 same-length c = search needs
 
 returns : tie.Need-returns
-unfolding givenInCodes
 returns c =
     let gave = c .before .before .before in
     let summed = gave .before .before .before .before in
@@ -78,16 +76,16 @@ returns c =
     let at = sized .before .before .before in
     let a = at .before .before .before .before .before .before .args in (
       λ ss columns.
-          let give : List ℕ → List ℕ → ℕ → List ℕ = λ (lots caps : List ℕ) (need : ℕ). taken ss (inOrder ltb (lowerSectionCode ss) lots (length ss)) lots caps need in
+          let give : List ℕ → List ℕ → ℕ → List ℕ = λ (lots caps : List ℕ) (need : ℕ). taken ss (inOrder (sooner (a .outside)) (lowerSectionCode ss) lots (length ss)) lots caps need in
           gave .give .ensures .0 ss columns
           ∙ ap₂ (λ (lots caps : List ℕ). give lots caps (summed .sum .result)) (front at .is ∙ at .on-side-in-codes .ensures .0 ss (columns .codes-are) (columns .positions-are)) (sized .magnitudes .ensures)
           ∙ ap (give _ _) (summed .sum .ensures ∙ ap total (sized .magnitudes .ensures))
-          ∙ taken-sizes ss (told ss (now (a .codes)) (now (a .positions)) (now (a .keys)) columns) false _ (now (a .gaps)) (listed-length (length ss) _),
+          ∙ taken-sizes ss (told ss (now (a .codes)) (now (a .positions)) (now (a .keys)) columns) (a .outside) _ (now (a .numbers)) (listed-length (length ss) _),
       λ i. omega (arith, gave .give .ensures .1 i, ap (λ (xs : List ℕ). entry xs i) (front at .is), at .on-side-in-codes .ensures .1 i),
     )
 
-pub give-in-codes-spec : {M : Type 1} → statement M
-give-in-codes-spec =
+pub give-spec : {M : Type 1} → statement M
+give-spec =
     tie.close
     (tie.spec
     array-borrow-prefix-lots
