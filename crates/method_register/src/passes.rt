@@ -1,78 +1,83 @@
 // The passes of an expiry one after the other.
-ghost use Rattle.rules.specs.Words.{ℕ, List, _≡_, length};
+ghost use Rattle.rules.specs.Words.{ℕ, _≡_, _+_, _≤_, _<_, _++_, List, [], flatMap, length};
 ghost use Rattle.rules.specs.declared.book.{Section.Section, Notice.Notice};
 ghost use Rattle.rules.specs.Expiry.Call;
-ghost use Rattle.method_laws.specs.Columns.{Columns, Filed};
 ghost use Rattle.method_passes.specs.Formed.{linesIn};
-ghost use Rattle.method_register.specs.Expiring.{Expiring};
+ghost use Rattle.method_register.specs.Passes.{inCode, inCodes, pairsBy, linesBy, Read, Delivers, Expiring};
 use crate::chosen;
+use crate::lots;
 use method_giving::lists;
-use method_holding::drawing;
 use method_passes::pass;
 use method_passes::pass::Formed;
 use method_passes::register;
-use method_steps::outside;
 use rules::limits::NOTICE_PLACES;
 use rules::limits::SECTION_PLACES;
 use rules::limits::SETTLEMENT_CODES;
 
-// One inside pass; a code with no lots to buy inside forms nothing and is not run (01, Expiry, 6.1).
+// The inside pass of a settlement code, of the inside lots of the long sections; with none of the code to buy it forms nothing and is not run (01, Expiry, 6.1).
 fn inside_pass(
     codes: &[u8],
-    positions: &[i64],
     keys: &[u64],
-    near: &[u64],
+    buyers: &[u64],
     sellers: &[u8],
     stands: &[u8],
-    inside: &[u64],
+    drawn: &[u64],
     c: u8,
     before: Formed,
-) -> Formed {
-    let held = near.len();
-    let filed = inside.len();
-    let mut buyers = [0; SECTION_PLACES];
-    let wanted = chosen::buyers_in_code(codes, positions, near, c, &mut buyers[..held]);
+) -> Formed
+    requires { ⌜ Read (now codes) (now keys) (now buyers) (now sellers) (now stands) (now drawn) × (before .pairs ≤ 10_240) ⌝ }
+    requires { ⌜ before .register .count + length (linesBy (now keys) (now sellers) (now stands) (inCode (now codes) (now sellers) (now buyers) (now drawn) c)) ≤ 382 ⌝ }
+    ensures { λ r. ⌜ linesIn (r .register) ≡ linesIn (before .register) ++ linesBy (now (keys .entry)) (now (sellers .entry)) (now (stands .entry)) (inCode (now (codes .entry)) (now (sellers .entry)) (now (buyers .entry)) (now (drawn .entry)) c) ⌝ }
+    ensures { λ r. ⌜ r .pairs ≡ before .pairs + length (pairsBy (now (keys .entry)) (now (stands .entry)) (inCode (now (codes .entry)) (now (sellers .entry)) (now (buyers .entry)) (now (drawn .entry)) c)) ⌝ }
+{
+    let held = buyers.len();
+    let filed = drawn.len();
+    let mut bought = [0; SECTION_PLACES];
+    chosen::lots_in_code(codes, buyers, c, &mut bought[..held]);
+    let wanted = lists::sum(&bought[..held]);
     if wanted == 0 {
         return before;
     }
-    let mut drawn = [0; NOTICE_PLACES];
-    chosen::drawn_in_code(codes, sellers, inside, c, &mut drawn[..filed]);
-    pass::run(keys, &mut buyers[..held], sellers, stands, &mut drawn[..filed], before)
+    let mut sold = [0; NOTICE_PLACES];
+    chosen::drawn_in_code(codes, sellers, drawn, c, &mut sold[..filed]);
+    pass::run(keys, &mut bought[..held], sellers, stands, &mut sold[..filed], before)
+}
+
+// Nothing formed yet.
+fn nothing() -> Formed
+    ensures { λ r. ⌜ (linesIn (r .register) ≡ []) × (r .pairs ≡ 0) ⌝ }
+{
+    let empty = register::none();
+    Formed {
+        register: empty,
+        pairs: 0,
+    }
 }
 
 // All inside passes, by settlement code ascending (01, Expiry, 6.1).
 fn inside_passes(
     codes: &[u8],
-    positions: &[i64],
     keys: &[u64],
-    near: &[u64],
+    buyers: &[u64],
     sellers: &[u8],
     stands: &[u8],
-    inside: &[u64],
-) -> Formed {
-    let mut formed = Formed { register: register::none(), pairs: 0 };
+    drawn: &[u64],
+) -> Formed
+    requires { ⌜ Read (now codes) (now keys) (now buyers) (now sellers) (now stands) (now drawn) ⌝ }
+    requires { ⌜ length (flatMap (linesBy (now keys) (now sellers) (now stands)) (inCodes (now codes) (now sellers) (now buyers) (now drawn))) ≤ 382 ⌝ }
+    ensures { λ r. ⌜ linesIn (r .register) ≡ flatMap (linesBy (now (keys .entry)) (now (sellers .entry)) (now (stands .entry))) (inCodes (now (codes .entry)) (now (sellers .entry)) (now (buyers .entry)) (now (drawn .entry))) ⌝ }
+    ensures { λ r. ⌜ r .pairs ≡ length (flatMap (pairsBy (now (keys .entry)) (now (stands .entry))) (inCodes (now (codes .entry)) (now (sellers .entry)) (now (buyers .entry)) (now (drawn .entry)))) ⌝ }
+    ensures { λ r. ⌜ r .pairs ≤ 10_240 ⌝ }
+{
+    let start = nothing();
+    let mut formed = start;
     let mut c = 0;
     while c < SETTLEMENT_CODES {
-        formed = inside_pass(codes, positions, keys, near, sellers, stands, inside, c as u8, formed);
+        let code = c as u8;
+        formed = inside_pass(codes, keys, buyers, sellers, stands, drawn, code, formed);
         c += 1;
     }
     formed
-}
-
-// The outside pass (01, Expiry, 6.1).
-fn outside_pass(
-    positions: &[i64],
-    keys: &[u64],
-    far: &[u64],
-    sellers: &[u8],
-    stands: &[u8],
-    beyond: &mut [u64],
-    before: Formed,
-) -> Formed {
-    let held = far.len();
-    let mut buyers = [0; SECTION_PLACES];
-    chosen::long_buyers(positions, far, &mut buyers[..held]);
-    pass::run(keys, &mut buyers[..held], sellers, stands, beyond, before)
 }
 
 // The register of what is delivered, and how many pairs were formed (01, Expiry, 6.1; 01, Expiry, 7; 01, Forms, 2).
@@ -86,20 +91,19 @@ pub fn form(
     kept: &[u64],
 ) -> Formed
     requires { ⌜ Expiring (now codes) (now positions) (now keys) (now sellers) (now stands) (now lots) (now kept) ⌝ }
-    ensures { λ r. ⌜ ((ss : List Section) (ns : List Notice) → Columns ss (now (codes .entry)) (now (positions .entry)) (now (keys .entry)) → Filed ns (now (sellers .entry)) (now (stands .entry)) (now (lots .entry)) → now (kept .entry) ≡ Call.delivered ss ns → linesIn (r .register) ≡ Call.lines ss ns) ⌝ }
-    ensures { λ r. ⌜ ((ss : List Section) (ns : List Notice) → Columns ss (now (codes .entry)) (now (positions .entry)) (now (keys .entry)) → Filed ns (now (sellers .entry)) (now (stands .entry)) (now (lots .entry)) → now (kept .entry) ≡ Call.delivered ss ns → r .pairs ≡ length (Call.pairs ss ns)) ⌝ }
+    ensures { λ r. ⌜ ((ss : List Section) (ns : List Notice) → Delivers ss ns (now (codes .entry)) (now (positions .entry)) (now (keys .entry)) (now (sellers .entry)) (now (stands .entry)) (now (lots .entry)) (now (kept .entry)) → linesIn (r .register) ≡ Call.lines ss ns) ⌝ }
+    ensures { λ r. ⌜ ((ss : List Section) (ns : List Notice) → Delivers ss ns (now (codes .entry)) (now (positions .entry)) (now (keys .entry)) (now (sellers .entry)) (now (stands .entry)) (now (lots .entry)) (now (kept .entry)) → r .pairs ≡ length (Call.pairs ss ns)) ⌝ }
 {
     let held = kept.len();
     let filed = sellers.len();
-    let mut far = [0; SECTION_PLACES];
-    outside::outside(codes, positions, keys, kept, &mut far[..held]);
     let mut near = [0; SECTION_PLACES];
-    near_lots(kept, &far[..held], &mut near[..held]);
+    let mut far = [0; SECTION_PLACES];
+    lots::split(codes, positions, keys, kept, &mut near[..held], &mut far[..held]);
     let mut inside = [0; NOTICE_PLACES];
-    drawing::drawn(positions, sellers, lots, &near[..held], &mut inside[..filed]);
     let mut beyond = [0; NOTICE_PLACES];
-    drawing::drawn(positions, sellers, lots, kept, &mut beyond[..filed]);
-    lists::less(&mut beyond[..filed], &inside[..filed]);
-    let formed = inside_passes(codes, positions, keys, &near[..held], sellers, stands, &inside[..filed]);
-    outside_pass(positions, keys, &far[..held], sellers, stands, &mut beyond[..filed], formed)
+    lots::draw(positions, sellers, lots, kept, &near[..held], &mut inside[..filed], &mut beyond[..filed]);
+    chosen::keep_long(positions, &mut near[..held]);
+    chosen::keep_long(positions, &mut far[..held]);
+    let formed = inside_passes(codes, keys, &near[..held], sellers, stands, &inside[..filed]);
+    pass::run(keys, &mut far[..held], sellers, stands, &mut beyond[..filed], formed)
 }

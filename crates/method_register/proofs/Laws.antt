@@ -1,0 +1,122 @@
+-- The passes by columns are those of the sections and the notices that have these columns; the lines of some of them are no more than those of all.
+use Rattle.numbers.proofs.Words.{ℕ, zero, suc, _+_, _*_, _≤_, _<_, not-suc-le-zero, arith, _≡_, refl, sym, ap, ap₂, _∙_, Bool, cond, List, [], _∷_, _++_, map, flatMap, length, length-append, eqb, ℤ, _&&_, add-one, counted, listed, entry, entryℤ, less}
+use Rattle.numbers.proofs.Lists.{flatMap-last}
+use Rattle.numbers.proofs.Ranges.{listed-length, listed-at, listed-past, listed-same, listed-more}
+use Rattle.numbers.proofs.Under.{under-two}
+use Rattle.rules.specs.declared.book.{Section.Section, Notice.Notice}
+use Rattle.rules.specs.Book.{settlementCodes, sectionOf}
+use Rattle.rules.specs.Expiry.{isLong, Outside.outside, Drawing.drawn}
+use Rattle.rules.specs.Expiry.Passes.{Pass, pairsOf, linesOf, insidePass, outsidePass}
+use Rattle.rules.specs.Expiry.Call.{passes, delivered, pairs, lines}
+use Rattle.method_laws.specs.Columns.{Columns}
+use Rattle.method_laws.proofs.Columns.{code-at, position-at, seller-at}
+use Rattle.method_passes.proofs.Passed.{pass-pairs, pass-lines}
+use Rattle.method_register.specs.Passes.{longLots, inCode, inCodes, pairsBy, linesBy, Delivers}
+
+-- the lists that n entries and one more stand for
+module _ {A B : Type 0} (g : A → List B) (f : ℕ → A) where
+  pub flat-next : (n : ℕ) → flatMap g (listed (n + 1) f) ≡ flatMap g (listed n f) ++ g (f n)
+  flat-next n = ap (λ (m : ℕ). flatMap g (listed m f)) (add-one n) ∙ ap (flatMap g) (listed-more n f) ∙ flatMap-last g (listed n f) (f n)
+
+  pub flat-next-length : (n : ℕ) → length (flatMap g (listed (n + 1) f)) ≡ length (flatMap g (listed n f)) + length (g (f n))
+  flat-next-length n = ap length (flat-next n) ∙ length-append (flatMap g (listed n f)) (g (f n))
+
+  -- are no more than those of more entries
+  pub flat-within : (n more : ℕ) → length (flatMap g (listed n f)) ≤ length (flatMap g (listed (n + more) f))
+  flat-within n zero = omega arith
+  flat-within n (suc more) = omega (arith, flat-within n more, flat-next-length (n + more), ap (λ (m : ℕ). length (flatMap g (listed m f))) (sym (add-one (n + more))))
+
+-- of equal lists at each entry
+pub flat-same : {A B C : Type 0} (g : A → List C) (h : B → List C) (f : ℕ → A) (k : ℕ → B) → ((i : ℕ) → g (f i) ≡ h (k i)) → (is : List ℕ) → flatMap g (map f is) ≡ flatMap h (map k is)
+unfolding flatMap
+flat-same g h f k e [] = refl
+flat-same g h f k e (i ∷ is) = ap₂ (λ (xs ys : List _). xs ++ ys) (e i) (flat-same g h f k e is)
+
+-- what stays inside, what goes outside, and what is drawn of the notices for them
+pub record Split (ss : List Section) (ns : List Notice) (kept near far inside beyond : List ℕ) : Type 0 where
+  pub far-is : far ≡ outside ss kept
+  pub near-is : near ≡ less kept far
+  pub inside-is : inside ≡ drawn ss ns near
+  pub beyond-is : beyond ≡ less (drawn ss ns kept) inside
+  pub near-long : length near ≡ length ss
+  pub far-long : length far ≡ length ss
+  pub inside-long : length inside ≡ length ns
+
+abbrev pub outsideOf : List ℤ → List ℕ → List ℕ → Pass
+outsideOf positions far drawn = record { buyers = longLots positions far; drawn = drawn }
+
+module _ {ss : List Section} {ns : List Notice} {codes : List ℕ} {positions : List ℤ} {keys sellers stands lots kept near far inside beyond : List ℕ}
+    (d : Delivers ss ns codes positions keys sellers stands lots kept) (s : Split ss ns kept near far inside beyond) where
+  abbrev columns : Columns ss codes positions keys
+  columns = d .columns
+
+  abbrev buyers : List ℕ
+  buyers = longLots positions near
+
+  long-near : length buyers ≡ length ss
+  long-near = listed-length (length near) _ ∙ s .near-long
+
+  -- an inside pass
+  bought : (c : ℕ) → inCode codes sellers buyers inside c .buyers ≡ insidePass ss ns near inside c .buyers
+  unfolding insidePass
+  bought c =
+      ap (λ (m : ℕ). listed m (λ (i : ℕ). cond (eqb (entry codes i) c) (entry buyers i) 0)) long-near
+      ∙ listed-same (length ss) _ _
+      (λ i h.
+      ap (λ (n : ℕ). cond (eqb (entry codes i) c) n 0) (listed-at (length near) _ i 0 (omega (arith, h, s .near-long)))
+      ∙ sym (under-two (isLong (entryℤ positions i)) (eqb (entry codes i) c) (entry near i))
+      ∙ ap₂ (λ (z : ℤ) (m : ℕ). cond (isLong z && eqb m c) (entry near i) 0) (position-at ss (columns .positions-are) i) (code-at ss (columns .codes-are) i))
+
+  sold : (c : ℕ) → inCode codes sellers buyers inside c .drawn ≡ insidePass ss ns near inside c .drawn
+  unfolding insidePass
+  sold c =
+      ap (λ (m : ℕ). listed m (λ (k : ℕ). cond (eqb (entry codes (entry sellers k)) c) (entry inside k) 0)) (s .inside-long)
+      ∙ listed-same (length ns) _ _
+      (λ k h.
+      ap (λ (m : ℕ). cond (eqb m c) (entry inside k) 0) (code-at ss (columns .codes-are) (entry sellers k) ∙ ap (λ (i : ℕ). sectionOf ss i .settlement) (seller-at ns (d .filed .sellers-are) k)))
+
+  made : List ℕ → List ℕ → Pass
+  made bs xs = record { buyers = bs; drawn = xs }
+
+  inside-same : (c : ℕ) → inCode codes sellers buyers inside c ≡ insidePass ss ns near inside c
+  unfolding made insidePass
+  inside-same c = ap₂ made (bought c) (sold c)
+
+  -- the outside pass
+  outside-same : outsideOf positions far beyond ≡ outsidePass ss far beyond
+  unfolding made outsidePass
+  outside-same =
+      ap (λ (bs : List ℕ). made bs beyond)
+      (ap (λ (m : ℕ). listed m (λ (i : ℕ). cond (isLong (entryℤ positions i)) (entry far i) 0)) (s .far-long)
+      ∙ listed-same (length ss) _ _ (λ i h. ap (λ (z : ℤ). cond (isLong z) (entry far i) 0) (position-at ss (columns .positions-are) i)))
+
+  -- all of them
+  passes-are : listed settlementCodes (insidePass ss ns near inside) ++ (outsidePass ss far beyond ∷ []) ≡ passes ss ns (delivered ss ns)
+  unfolding passes
+  passes-are =
+      let near-is = s .near-is ∙ ap (less kept) (s .far-is) in
+      let inside-is = s .inside-is ∙ ap (drawn ss ns) near-is in
+      ap₂ (λ (ps : List Pass) (p : Pass). ps ++ (p ∷ []))
+      (ap₂ (λ (lots taken : List ℕ). listed settlementCodes (insidePass ss ns lots taken)) near-is inside-is)
+      (ap₂ (outsidePass ss) (s .far-is) (s .beyond-is ∙ ap (less (drawn ss ns kept)) inside-is))
+      ∙ ap (passes ss ns) (d .kept-is)
+
+  -- what all of them form, where each forms the same by its columns
+  module _ {B : Type 0} (by of : Pass → List B) (same : (p : Pass) → length (p .buyers) ≡ length ss → by p ≡ of p) where
+    formed : flatMap by (inCodes codes sellers buyers inside) ++ by (outsideOf positions far beyond) ≡ flatMap of (passes ss ns (delivered ss ns))
+    formed =
+        ap₂ (λ (xs ys : List B). xs ++ ys)
+        (flat-same by of (inCode codes sellers buyers inside) (insidePass ss ns near inside)
+        (λ c. same (inCode codes sellers buyers inside c) (listed-length (length buyers) _ ∙ long-near) ∙ ap of (inside-same c)) (counted 0 settlementCodes))
+        (same (outsideOf positions far beyond) (listed-length (length far) _ ∙ s .far-long) ∙ ap of outside-same)
+        ∙ sym (flatMap-last of (listed settlementCodes (insidePass ss ns near inside)) (outsidePass ss far beyond))
+        ∙ ap (flatMap of) passes-are
+
+  pub all-pairs : flatMap (pairsBy keys stands) (inCodes codes sellers buyers inside) ++ pairsBy keys stands (outsideOf positions far beyond) ≡ pairs ss ns
+  unfolding pairs
+  all-pairs = formed (pairsBy keys stands) (pairsOf ss ns) (pass-pairs columns (d .filed))
+
+  pub all-lines : ((k : ℕ) → k < length stands → entry sellers k < length ss)
+      → flatMap (linesBy keys sellers stands) (inCodes codes sellers buyers inside) ++ linesBy keys sellers stands (outsideOf positions far beyond) ≡ lines ss ns
+  unfolding lines
+  all-lines known = formed (linesBy keys sellers stands) (linesOf ss ns) (λ p long. pass-lines columns (d .filed) p long known)
