@@ -1,7 +1,7 @@
 -- The passes by columns are those of the sections and the notices that have these columns; the lines of some of them are no more than those of all.
-use Rattle.numbers.proofs.Words.{ℕ, zero, suc, _+_, _*_, _≤_, _<_, not-suc-le-zero, arith, _≡_, refl, sym, ap, ap₂, _∙_, Bool, cond, List, [], _∷_, _++_, map, flatMap, length, length-append, eqb, ℤ, _&&_, add-one, counted, listed, entry, entryℤ, less}
+use Rattle.numbers.proofs.Words.{ℕ, zero, suc, _+_, _≤_, _<_, add-zero, arith, _≡_, refl, sym, ap, ap₂, _∙_, cond, List, [], _∷_, _++_, map, flatMap, length, length-append, eqb, ℤ, _&&_, add-one, counted, listed, entry, entryℤ, less}
 use Rattle.numbers.proofs.Lists.{flatMap-last}
-use Rattle.numbers.proofs.Ranges.{listed-length, listed-at, listed-past, listed-same, listed-more}
+use Rattle.numbers.proofs.Ranges.{listed-length, listed-at, listed-same, listed-more}
 use Rattle.numbers.proofs.Under.{under-two}
 use Rattle.rules.specs.declared.book.{Section.Section, Notice.Notice}
 use Rattle.rules.specs.Book.{settlementCodes, sectionOf}
@@ -23,7 +23,7 @@ module _ {A B : Type 0} (g : A → List B) (f : ℕ → A) where
 
   -- are no more than those of more entries
   pub flat-within : (n more : ℕ) → length (flatMap g (listed n f)) ≤ length (flatMap g (listed (n + more) f))
-  flat-within n zero = omega arith
+  flat-within n zero = omega (arith, ap (λ (m : ℕ). length (flatMap g (listed m f))) (add-zero n))
   flat-within n (suc more) = omega (arith, flat-within n more, flat-next-length (n + more), ap (λ (m : ℕ). length (flatMap g (listed m f))) (sym (add-one (n + more))))
 
 -- of equal lists at each entry
