@@ -1,17 +1,21 @@
 -- The passes by columns are those of the sections and the notices that have these columns; the lines of some of them are no more than those of all.
-use Rattle.numbers.proofs.Words.{ℕ, zero, suc, _+_, _≤_, _<_, add-zero, arith, _≡_, refl, sym, ap, ap₂, _∙_, cond, List, [], _∷_, _++_, map, flatMap, length, length-append, eqb, ℤ, _&&_, add-one, counted, listed, entry, entryℤ, less}
+use Rattle.numbers.proofs.Words.{ℕ, zero, suc, _+_, _-_, _*_, _≤_, _<_, add-zero, arith, _≡_, refl, sym, ap, ap₂, subst, _∙_, Bool, cond, List, [], _∷_, _++_, map, flatMap, length, take, drop, length-append, length-take-le, take-at, eqb, ℤ, _&&_, add-one, counted, listed, entry, entryℤ, less}
 use Rattle.numbers.proofs.Lists.{flatMap-last}
-use Rattle.numbers.proofs.Ranges.{listed-length, listed-at, listed-same, listed-more}
+use Rattle.numbers.proofs.Ranges.{listed-length, listed-at, listed-same, listed-more, listed-under}
 use Rattle.numbers.proofs.Under.{under-two}
 use Rattle.rules.specs.declared.book.{Section.Section, Notice.Notice}
 use Rattle.rules.specs.Book.{settlementCodes, sectionOf}
 use Rattle.rules.specs.Expiry.{isLong, Outside.outside, Drawing.drawn}
-use Rattle.rules.specs.Expiry.Passes.{Pass, pairsOf, linesOf, insidePass, outsidePass}
+use Rattle.rules.specs.Expiry.Passes.{Line, Pass, pairsOf, linesOf, insidePass, outsidePass}
 use Rattle.rules.specs.Expiry.Call.{passes, delivered, pairs, lines}
-use Rattle.method_laws.specs.Columns.{Columns}
+use Rattle.method_laws.specs.Columns.{Columns, byKey}
 use Rattle.method_laws.proofs.Columns.{code-at, position-at, seller-at}
+use Rattle.method_passes.specs.declared.{pass.Formed.Formed}
+use Rattle.method_passes.specs.Formed.{linesIn, Sold}
+use Rattle.method_passes.proofs.Arrays.{lines-count}
+use Rattle.method_passes.proofs.Stages.{pass-known}
 use Rattle.method_passes.proofs.Passed.{pass-pairs, pass-lines}
-use Rattle.method_register.specs.Passes.{longLots, inCode, inCodes, pairsBy, linesBy, Delivers}
+use Rattle.method_register.specs.Passes.{longLots, inCode, inCodes, pairsBy, linesBy, Read, Delivers}
 
 -- the lists that n entries and one more stand for
 module _ {A B : Type 0} (g : A → List B) (f : ℕ → A) where
@@ -24,7 +28,9 @@ module _ {A B : Type 0} (g : A → List B) (f : ℕ → A) where
   -- are no more than those of more entries
   pub flat-within : (n more : ℕ) → length (flatMap g (listed n f)) ≤ length (flatMap g (listed (n + more) f))
   flat-within n zero = omega (arith, ap (λ (m : ℕ). length (flatMap g (listed m f))) (add-zero n))
-  flat-within n (suc more) = omega (arith, flat-within n more, flat-next-length (n + more), ap (λ (m : ℕ). length (flatMap g (listed m f))) (sym (add-one (n + more))))
+  flat-within n (suc more) =
+      let next : n + more + 1 ≡ n + suc more = omega arith in
+      omega (arith, flat-within n more, flat-next-length (n + more), ap (λ (m : ℕ). length (flatMap g (listed m f))) next)
 
 -- of equal lists at each entry
 pub flat-same : {A B C : Type 0} (g : A → List C) (h : B → List C) (f : ℕ → A) (k : ℕ → B) → ((i : ℕ) → g (f i) ≡ h (k i)) → (is : List ℕ) → flatMap g (map f is) ≡ flatMap h (map k is)
@@ -120,3 +126,81 @@ module _ {ss : List Section} {ns : List Notice} {codes : List ℕ} {positions : 
       → flatMap (linesBy keys sellers stands) (inCodes codes sellers buyers inside) ++ linesBy keys sellers stands (outsideOf positions far beyond) ≡ lines ss ns
   unfolding lines
   all-lines known = formed (linesBy keys sellers stands) (linesOf ss ns) (λ p long. pass-lines columns (d .filed) p long known)
+
+-- the front of a local list, lent and filled by a call
+pub record Front (n : ℕ) (was front : List ℕ) : Type 0 where
+  pub is : take n (front ++ drop n was) ≡ front
+  pub fits : n ≤ length (front ++ drop n was)
+  pub long : length (take n (front ++ drop n was)) ≡ n
+
+pub front-of : (n : ℕ) (was front : List ℕ) → n ≤ length was → length front ≡ length (take n was) → Front n was front
+front-of n was front few kept =
+    let full : length front ≡ n = kept ∙ length-take-le n was few in
+    let is = take-at front (drop n was) n full in
+    record { is = is; fits = omega (arith, length-append front (drop n was), full); long = ap length is ∙ full }
+
+-- of what is drawn, that under a test
+pub sold-less : {sellers stands drawn : List ℕ} {sections : ℕ} → Sold sellers stands drawn sections → (test : ℕ → Bool) → Sold sellers stands (listed (length drawn) (λ (k : ℕ). cond (test k) (entry drawn k) 0)) sections
+sold-less {drawn = drawn} sold test =
+    let notices = sold .notices in
+    record {
+      notices =
+          record {
+            few = notices .few;
+            long = listed-length (length drawn) _ ∙ notices .long;
+            standing = notices .standing;
+            small = λ k. omega (arith, listed-under (length drawn) test (entry drawn) k, notices .small k);
+          };
+      long = sold .long;
+      seller = sold .seller;
+    }
+
+-- what the inside passes of the first c codes have formed
+pub record Ran (codes keys buyers sellers stands drawn : List ℕ) (formed : Formed) (c : ℕ) : Type 0 where
+  pub within : c ≤ 64
+  pub lines : linesIn (formed .register) ≡ flatMap (linesBy keys sellers stands) (listed c (inCode codes sellers buyers drawn))
+  pub pairs : formed .pairs ≡ length (flatMap (pairsBy keys stands) (listed c (inCode codes sellers buyers drawn)))
+  pub few : formed .pairs ≤ 160 * c
+
+module _ {codes keys buyers sellers stands drawn : List ℕ} {formed : Formed} where
+  pub ran-none : linesIn (formed .register) ≡ [] → formed .pairs ≡ 0 → Ran codes keys buyers sellers stands drawn formed 0
+  unfolding counted flatMap
+  ran-none none zero-pairs = record { within = omega arith; lines = none; pairs = zero-pairs; few = omega (arith, zero-pairs) }
+
+  module _ {c : ℕ} (ran : Ran codes keys buyers sellers stands drawn formed c) where
+    abbrev pass : Pass
+    pass = inCode codes sellers buyers drawn c
+
+    -- the lines of one pass more find room
+    pub ran-fits : c < 64 → length (flatMap (linesBy keys sellers stands) (inCodes codes sellers buyers drawn)) ≤ 382 → formed .register .count + length (linesBy keys sellers stands pass) ≤ 382
+    ran-fits below room =
+        let each = inCode codes sellers buyers drawn in
+        let form = linesBy keys sellers stands in
+        let all : c + 1 + (64 - (c + 1)) ≡ 64 = omega (arith, below) in
+        omega (
+          arith,
+          room,
+          lines-count (formed .register),
+          ap length (ran .lines),
+          flat-next-length form each c,
+          flat-within form each (c + 1) (64 - (c + 1)),
+          ap (λ (m : ℕ). length (flatMap form (listed m each))) all,
+        )
+
+    -- one pass more
+    pub ran-next : Read codes keys buyers sellers stands drawn → c < 64 → {next : Formed} → linesIn (next .register) ≡ linesIn (formed .register) ++ linesBy keys sellers stands pass
+        → next .pairs ≡ formed .pairs + length (pairsBy keys stands pass) → Ran codes keys buyers sellers stands drawn next (c + 1)
+    ran-next read below lines pairs =
+        let each = inCode codes sellers buyers drawn in
+        let long : length (pass .buyers) ≡ length buyers = listed-length (length buyers) _ in
+        let few = pass-known (byKey keys) stands (pass .buyers) (pass .drawn) (omega (arith, long, read .buyers-long, read .few)) .few in
+        record {
+          within = omega (arith, below);
+          lines = lines ∙ ap (λ (ls : List Line). ls ++ linesBy keys sellers stands pass) (ran .lines) ∙ sym (flat-next (linesBy keys sellers stands) each c);
+          pairs = omega (arith, pairs, ran .pairs, flat-next-length (pairsBy keys stands) each c);
+          few = omega (arith, pairs, ran .few, few);
+        }
+
+    -- after the last code
+    pub ran-end : 64 ≤ c → Ran codes keys buyers sellers stands drawn formed 64
+    ran-end past = subst (Ran codes keys buyers sellers stands drawn formed) (omega (arith, past, ran .within)) ran
