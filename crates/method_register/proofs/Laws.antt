@@ -1,7 +1,7 @@
 -- The passes by columns are those of the sections and the notices that have these columns; the lines of some of them are no more than those of all.
 use Rattle.numbers.proofs.Words.{ℕ, zero, suc, _+_, _-_, _*_, _≤_, _<_, add-zero, arith, _≡_, refl, sym, ap, ap₂, subst, _∙_, Bool, cond, List, [], _∷_, _++_, map, flatMap, length, take, drop, length-append, length-take-le, take-at, eqb, ℤ, _&&_, add-one, counted, listed, entry, entryℤ, less}
 use Rattle.numbers.proofs.Lists.{flatMap-last}
-use Rattle.numbers.proofs.Ranges.{listed-length, listed-at, listed-same, listed-more, listed-under}
+use Rattle.numbers.proofs.Ranges.{listed-length, listed-at, listed-same, listed-more, listed-under, less-at}
 use Rattle.numbers.proofs.Under.{under-two}
 use Rattle.rules.specs.declared.book.{Section.Section, Notice.Notice}
 use Rattle.rules.specs.Book.{settlementCodes, sectionOf}
@@ -9,13 +9,13 @@ use Rattle.rules.specs.Expiry.{isLong, Outside.outside, Drawing.drawn}
 use Rattle.rules.specs.Expiry.Passes.{Line, Pass, pairsOf, linesOf, insidePass, outsidePass}
 use Rattle.rules.specs.Expiry.Call.{passes, delivered, pairs, lines}
 use Rattle.method_laws.specs.Columns.{Columns, byKey}
-use Rattle.method_laws.proofs.Columns.{code-at, position-at, seller-at}
+use Rattle.method_laws.proofs.Columns.{code-at, position-at, codes-long, seller-at, sellers-long, stands-long}
 use Rattle.method_passes.specs.declared.{pass.Formed.Formed}
 use Rattle.method_passes.specs.Formed.{linesIn, Sold}
 use Rattle.method_passes.proofs.Arrays.{lines-count}
 use Rattle.method_passes.proofs.Stages.{pass-known}
 use Rattle.method_passes.proofs.Passed.{pass-pairs, pass-lines}
-use Rattle.method_register.specs.Passes.{longLots, inCode, inCodes, pairsBy, linesBy, Read, Delivers}
+use Rattle.method_register.specs.Passes.{longLots, inCode, inCodes, pairsBy, linesBy, Read, Delivers, Expiring}
 
 -- the lists that n entries and one more stand for
 module _ {A B : Type 0} (g : A → List B) (f : ℕ → A) where
@@ -129,6 +129,7 @@ module _ {ss : List Section} {ns : List Notice} {codes : List ℕ} {positions : 
 
 -- the front of a local list, lent and filled by a call
 pub record Front (n : ℕ) (was front : List ℕ) : Type 0 where
+  pub full : length front ≡ n
   pub is : take n (front ++ drop n was) ≡ front
   pub fits : n ≤ length (front ++ drop n was)
   pub long : length (take n (front ++ drop n was)) ≡ n
@@ -137,7 +138,7 @@ pub front-of : (n : ℕ) (was front : List ℕ) → n ≤ length was → length 
 front-of n was front few kept =
     let full : length front ≡ n = kept ∙ length-take-le n was few in
     let is = take-at front (drop n was) n full in
-    record { is = is; fits = omega (arith, length-append front (drop n was), full); long = ap length is ∙ full }
+    record { full = full; is = is; fits = omega (arith, length-append front (drop n was), full); long = ap length is ∙ full }
 
 -- of what is drawn, that under a test
 pub sold-less : {sellers stands drawn : List ℕ} {sections : ℕ} → Sold sellers stands drawn sections → (test : ℕ → Bool) → Sold sellers stands (listed (length drawn) (λ (k : ℕ). cond (test k) (entry drawn k) 0)) sections
@@ -204,3 +205,49 @@ module _ {codes keys buyers sellers stands drawn : List ℕ} {formed : Formed} w
     -- after the last code
     pub ran-end : 64 ≤ c → Ran codes keys buyers sellers stands drawn formed 64
     ran-end past = subst (Ran codes keys buyers sellers stands drawn formed) (omega (arith, past, ran .within)) ran
+
+-- what the columns of a book that expires say of one another
+module _ {codes : List ℕ} {positions : List ℤ} {keys sellers stands lots kept : List ℕ} (e : Expiring codes positions keys sellers stands lots kept) where
+  all-stand : length stands ≡ length sellers
+  all-stand = stands-long (e .ns) (e .delivers .filed .stands-are) ∙ sym (sellers-long (e .ns) (e .delivers .filed .sellers-are))
+
+  pub all-kept : {ss : List Section} → Columns ss codes positions keys → length kept ≡ length ss
+  all-kept {ss} columns = sym (e .held .codes-long) ∙ codes-long ss (columns .codes-are)
+
+  pub sold-of : {xs : List ℕ} → length xs ≡ length sellers → ((k : ℕ) → entry xs k ≤ 1_000_000) → Sold sellers stands xs (length keys)
+  sold-of long small =
+      record {
+        notices = record { few = omega (arith, all-stand, e .noticed .few); long = long ∙ sym all-stand; standing = e .standing; small = small };
+        long = sym all-stand;
+        seller = λ k h. omega (arith, e .held .keys-long, e .noticed .seller k (omega (arith, h, all-stand)));
+      }
+
+  pub read-of : {ss : List Section} {ns : List Notice} {near far inside beyond : List ℕ} → Split ss ns kept near far inside beyond → Sold sellers stands inside (length keys) → Read codes keys (longLots positions near) sellers stands inside
+  read-of {near = near} {far = far} s sold =
+      let held = e .held in
+      let long : length near ≡ length kept = ap length (s .near-is) ∙ listed-length (length kept) _ in
+      record {
+        few = omega (arith, held .few, held .keys-long);
+        codes-long = held .codes-long ∙ sym (held .keys-long);
+        buyers-long = listed-length (length near) _ ∙ long ∙ sym (held .keys-long);
+        buyers-small = λ i.
+            omega (
+              arith,
+              listed-under (length near) (λ (j : ℕ). isLong (entryℤ positions j)) (entry near) i,
+              ap (λ (xs : List ℕ). entry xs i) (s .near-is),
+              less-at kept far i,
+              e .small i,
+            );
+        sold = sold;
+      }
+
+  pub lines-of : {ss : List Section} {ns : List Notice} {near far inside beyond : List ℕ} → Delivers ss ns codes positions keys sellers stands lots kept → Split ss ns kept near far inside beyond
+      → flatMap (linesBy keys sellers stands) (inCodes codes sellers (longLots positions near) inside) ++ linesBy keys sellers stands (outsideOf positions far beyond) ≡ lines ss ns
+  lines-of d s = all-lines d s (λ k h. omega (arith, all-kept (d .columns), e .noticed .seller k (omega (arith, h, all-stand))))
+
+  -- all lines find room
+  pub room : {near far inside beyond : List ℕ} → Split (e .ss) (e .ns) kept near far inside beyond
+      → length (flatMap (linesBy keys sellers stands) (inCodes codes sellers (longLots positions near) inside)) + length (linesBy keys sellers stands (outsideOf positions far beyond)) ≤ 382
+  room {near} {far} {inside} {beyond} s =
+      let before = flatMap (linesBy keys sellers stands) (inCodes codes sellers (longLots positions near) inside) in
+      omega (arith, e .few, ap length (lines-of (e .delivers) s), length-append before (linesBy keys sellers stands (outsideOf positions far beyond)))

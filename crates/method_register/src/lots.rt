@@ -26,7 +26,14 @@ fn stay(kept: &[u64], far: &[u64], near: &mut [u64])
 }
 
 // What of the lots kept stays inside, and what goes outside; `far` is noughts at first (01, Expiry, 4.1; 01, Expiry, 4.2).
-pub fn split(codes: &[u8], positions: &[i64], keys: &[u64], kept: &[u64], near: &mut [u64], far: &mut [u64])
+pub fn split(
+    codes: &[u8],
+    positions: &[i64],
+    keys: &[u64],
+    kept: &[u64],
+    near: &mut [u64],
+    far: &mut [u64],
+)
     requires { ⌜ Held (now codes) (now positions) (now keys) (length (now kept)) × ((i : ℕ) → entry (now kept) i ≤ 1_000_000) ⌝ }
     requires { ⌜ (length (now near) ≡ length (now kept)) × (now far ≡ replicate (length (now kept)) 0) ⌝ }
     ensures { λ _. ⌜ ((ss : List Section) → Columns ss (now (codes .entry)) (now (positions .entry)) (now (keys .entry)) → now (far .exit) ≡ Outside.outside ss (now (kept .entry))) ⌝ }

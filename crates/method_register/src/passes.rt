@@ -40,7 +40,14 @@ fn inside_pass(
     }
     let mut sold = [0; NOTICE_PLACES];
     chosen::drawn_in_code(codes, sellers, drawn, c, &mut sold[..filed]);
-    pass::run(keys, &mut bought[..held], sellers, stands, &mut sold[..filed], before)
+    pass::run(
+        keys,
+        &mut bought[..held],
+        sellers,
+        stands,
+        &mut sold[..filed],
+        before,
+    )
 }
 
 // Nothing formed yet.
@@ -98,12 +105,41 @@ pub fn form(
     let filed = sellers.len();
     let mut near = [0; SECTION_PLACES];
     let mut far = [0; SECTION_PLACES];
-    lots::split(codes, positions, keys, kept, &mut near[..held], &mut far[..held]);
+    lots::split(
+        codes,
+        positions,
+        keys,
+        kept,
+        &mut near[..held],
+        &mut far[..held],
+    );
     let mut inside = [0; NOTICE_PLACES];
     let mut beyond = [0; NOTICE_PLACES];
-    lots::draw(positions, sellers, lots, kept, &near[..held], &mut inside[..filed], &mut beyond[..filed]);
+    lots::draw(
+        positions,
+        sellers,
+        lots,
+        kept,
+        &near[..held],
+        &mut inside[..filed],
+        &mut beyond[..filed],
+    );
     chosen::keep_long(positions, &mut near[..held]);
     chosen::keep_long(positions, &mut far[..held]);
-    let formed = inside_passes(codes, keys, &near[..held], sellers, stands, &inside[..filed]);
-    pass::run(keys, &mut far[..held], sellers, stands, &mut beyond[..filed], formed)
+    let formed = inside_passes(
+        codes,
+        keys,
+        &near[..held],
+        sellers,
+        stands,
+        &inside[..filed],
+    );
+    pass::run(
+        keys,
+        &mut far[..held],
+        sellers,
+        stands,
+        &mut beyond[..filed],
+        formed,
+    )
 }
