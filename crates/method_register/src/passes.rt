@@ -61,7 +61,7 @@ fn nothing() -> Formed
     }
 }
 
-// All inside passes, by settlement code ascending (01, Expiry, 6.1).
+// All inside passes, by settlement code ascending; nothing is formed before (01, Expiry, 6.1).
 fn inside_passes(
     codes: &[u8],
     keys: &[u64],
@@ -69,15 +69,15 @@ fn inside_passes(
     sellers: &[u8],
     stands: &[u8],
     drawn: &[u64],
+    before: Formed,
 ) -> Formed
-    requires { ⌜ Read (now codes) (now keys) (now buyers) (now sellers) (now stands) (now drawn) ⌝ }
+    requires { ⌜ Read (now codes) (now keys) (now buyers) (now sellers) (now stands) (now drawn) × (linesIn (before .register) ≡ []) × (before .pairs ≡ 0) ⌝ }
     requires { ⌜ length (flatMap (linesBy (now keys) (now sellers) (now stands)) (inCodes (now codes) (now sellers) (now buyers) (now drawn))) ≤ 382 ⌝ }
     ensures { λ r. ⌜ linesIn (r .register) ≡ flatMap (linesBy (now (keys .entry)) (now (sellers .entry)) (now (stands .entry))) (inCodes (now (codes .entry)) (now (sellers .entry)) (now (buyers .entry)) (now (drawn .entry))) ⌝ }
     ensures { λ r. ⌜ r .pairs ≡ length (flatMap (pairsBy (now (keys .entry)) (now (stands .entry))) (inCodes (now (codes .entry)) (now (sellers .entry)) (now (buyers .entry)) (now (drawn .entry)))) ⌝ }
     ensures { λ r. ⌜ r .pairs ≤ 10_240 ⌝ }
 {
-    let start = nothing();
-    let mut formed = start;
+    let mut formed = before;
     let mut c = 0;
     while c < SETTLEMENT_CODES {
         let code = c as u8;
@@ -126,6 +126,7 @@ pub fn form(
     );
     chosen::keep_long(positions, &mut near[..held]);
     chosen::keep_long(positions, &mut far[..held]);
+    let start = nothing();
     let formed = inside_passes(
         codes,
         keys,
@@ -133,6 +134,7 @@ pub fn form(
         sellers,
         stands,
         &inside[..filed],
+        start,
     );
     pass::run(
         keys,

@@ -1,5 +1,5 @@
 -- The calls' `ensures`, one after the other: what the local lists hold is a `Split`.
-use Rattle.numbers.proofs.Words.{needs, ℕ, _+_, _≤_, arith, _≡_, sym, ap, ap₂, subst, subst₂, _∙_, List, _++_, flatMap, length, take, drop, replicate, length-append, length-take-le, now, entry}
+use Rattle.numbers.proofs.Words.{needs, ℕ, _+_, _≤_, arith, _≡_, sym, ap, ap₂, subst, subst₂, _∙_, List, [], _++_, flatMap, length, take, drop, replicate, length-append, length-take-le, now, entry}
 use Rattle.rules.specs.declared.book.{Section.Section, Notice.Notice}
 use Rattle.rules.specs.Expiry.Drawing.{drawn}
 use Rattle.rules.specs.Expiry.Passes.{Line}
@@ -138,67 +138,71 @@ slice-aggregate-keep-long-2 c = sym (far-front (c .before .before .before .befor
 keep-long-requires-2 : tie.Need-keep-long-requires-2
 keep-long-requires-2 c κs = c .before .before .before .before .before .before .before .before .before .before .before .before .before .before .before .before .before .before .before .before .before .pre .held .positions-long ∙ sym (far-front (c .before .before .before .before .before .before .before .before .before .before .before .before) .long)
 
+nothing-requires : tie.Need-nothing-requires
+nothing-requires c κs = search needs
+
 array-share-prefix-near-2 : tie.Need-array-share-prefix-near-2
-array-share-prefix-near-2 c = near-long-front (c .before .before .before .before) .fits
+array-share-prefix-near-2 c = near-long-front (c .before .before .before .before .before) .fits
 
 slice-aggregate-inside-passes : tie.Need-slice-aggregate-inside-passes
-slice-aggregate-inside-passes c = sym (near-long-front (c .before .before .before .before .before) .long)
+slice-aggregate-inside-passes c = sym (near-long-front (c .before .before .before .before .before .before) .long)
 
 array-share-prefix-inside : tie.Need-array-share-prefix-inside
-array-share-prefix-inside c = inside-front (c .before .before .before .before .before .before .before .before .before) .fits
+array-share-prefix-inside c = inside-front (c .before .before .before .before .before .before .before .before .before .before) .fits
 
 slice-aggregate-inside-passes-2 : tie.Need-slice-aggregate-inside-passes-2
-slice-aggregate-inside-passes-2 c = sym (inside-front (c .before .before .before .before .before .before .before .before .before .before) .long)
+slice-aggregate-inside-passes-2 c = sym (inside-front (c .before .before .before .before .before .before .before .before .before .before .before) .long)
 
 inside-passes-requires : tie.Need-inside-passes-requires
 inside-passes-requires c κs =
-    let drew = c .before .before .before .before .before .before .before .before .before .before in
+    let drew = c .before .before .before .before .before .before .before .before .before .before .before in
     let start = drew .before .before .before .before .before .before .before .before .before .before .before .before .before .before .before in
     let e = start .pre in
     let a = start .args in
     let split = split-of drew (e .delivers) in
+    let none = c .before .before .nothing .ensures in
     subst₂
-    (λ (bs xs : List ℕ). Read (now (a .codes)) (now (a .keys)) bs (now (a .sellers)) (now (a .stands)) xs × (length (flatMap (linesBy (now (a .keys)) (now (a .sellers)) (now (a .stands))) (inCodes (now (a .codes)) (now (a .sellers)) bs xs)) ≤ 382))
-    (sym (inside-buyers (c .before .before .before .before .before .before))) (sym (inside-front drew .is))
-    (read-of e split (sold-of e (inside-front drew .full) (drew .draw .ensures .1 .1 .0)), omega (arith, room e split))
+    (λ (bs xs : List ℕ). (Read (now (a .codes)) (now (a .keys)) bs (now (a .sellers)) (now (a .stands)) xs × (linesIn (c .before .before .nothing .result .register) ≡ []) × (c .before .before .nothing .result .pairs ≡ 0)) × (length (flatMap (linesBy (now (a .keys)) (now (a .sellers)) (now (a .stands))) (inCodes (now (a .codes)) (now (a .sellers)) bs xs)) ≤ 382))
+    (sym (inside-buyers (c .before .before .before .before .before .before .before))) (sym (inside-front drew .is))
+    ((read-of e split (sold-of e (inside-front drew .full) (drew .draw .ensures .1 .1 .0)), none .0, none .1), omega (arith, room e split))
 
 array-borrow-prefix-far-3 : tie.Need-array-borrow-prefix-far-3
-array-borrow-prefix-far-3 c = far-long-front (c .before .before .before .before) .fits
+array-borrow-prefix-far-3 c = far-long-front (c .before .before .before .before .before) .fits
 
 slice-aggregate-run : tie.Need-slice-aggregate-run
-slice-aggregate-run c = sym (far-long-front (c .before .before .before .before .before) .long)
+slice-aggregate-run c = sym (far-long-front (c .before .before .before .before .before .before) .long)
 
 array-borrow-prefix-beyond-2 : tie.Need-array-borrow-prefix-beyond-2
-array-borrow-prefix-beyond-2 c = beyond-front (c .before .before .before .before .before .before .before .before .before .before .before .before) .fits
+array-borrow-prefix-beyond-2 c = beyond-front (c .before .before .before .before .before .before .before .before .before .before .before .before .before) .fits
 
 slice-aggregate-run-2 : tie.Need-slice-aggregate-run-2
-slice-aggregate-run-2 c = sym (beyond-front (c .before .before .before .before .before .before .before .before .before .before .before .before .before) .long)
+slice-aggregate-run-2 c = sym (beyond-front (c .before .before .before .before .before .before .before .before .before .before .before .before .before .before) .long)
 
 -- what the inside passes form, of what the local lists hold
-inside-lines : (c : tie.After-inside-passes) → let a = c .before .before .before .before .before .before .before .before .before .before .before .before .before .before .before .before .before .before .before .before .before .before .before .before .before .before .args in linesIn (c .inside-passes .result .register) ≡ flatMap (linesBy (now (a .keys)) (now (a .sellers)) (now (a .stands))) (inCodes (now (a .codes)) (now (a .sellers)) (longLots (now (a .positions)) (near (c .before .before .before .before .before .before .before .before .before .before .before .before .before .before .before .before .before))) (inside (c .before .before .before .before .before .before .before .before .before .before .before)))
+inside-lines : (c : tie.After-inside-passes) → let a = c .before .before .before .before .before .before .before .before .before .before .before .before .before .before .before .before .before .before .before .before .before .before .before .before .before .before .before .args in linesIn (c .inside-passes .result .register) ≡ flatMap (linesBy (now (a .keys)) (now (a .sellers)) (now (a .stands))) (inCodes (now (a .codes)) (now (a .sellers)) (longLots (now (a .positions)) (near (c .before .before .before .before .before .before .before .before .before .before .before .before .before .before .before .before .before .before))) (inside (c .before .before .before .before .before .before .before .before .before .before .before .before)))
 inside-lines c =
-    let a = c .before .before .before .before .before .before .before .before .before .before .before .before .before .before .before .before .before .before .before .before .before .before .before .before .before .before .args in
+    let a = c .before .before .before .before .before .before .before .before .before .before .before .before .before .before .before .before .before .before .before .before .before .before .before .before .before .before .before .args in
     c .inside-passes .ensures .0
-    ∙ ap₂ (λ (bs xs : List ℕ). flatMap (linesBy (now (a .keys)) (now (a .sellers)) (now (a .stands))) (inCodes (now (a .codes)) (now (a .sellers)) bs xs)) (inside-buyers (c .before .before .before .before .before .before .before)) (inside-front (c .before .before .before .before .before .before .before .before .before .before .before) .is)
+    ∙ ap₂ (λ (bs xs : List ℕ). flatMap (linesBy (now (a .keys)) (now (a .sellers)) (now (a .stands))) (inCodes (now (a .codes)) (now (a .sellers)) bs xs)) (inside-buyers (c .before .before .before .before .before .before .before .before)) (inside-front (c .before .before .before .before .before .before .before .before .before .before .before .before) .is)
 
-inside-pairs : (c : tie.After-inside-passes) → let a = c .before .before .before .before .before .before .before .before .before .before .before .before .before .before .before .before .before .before .before .before .before .before .before .before .before .before .args in c .inside-passes .result .pairs ≡ length (flatMap (pairsBy (now (a .keys)) (now (a .stands))) (inCodes (now (a .codes)) (now (a .sellers)) (longLots (now (a .positions)) (near (c .before .before .before .before .before .before .before .before .before .before .before .before .before .before .before .before .before))) (inside (c .before .before .before .before .before .before .before .before .before .before .before))))
+inside-pairs : (c : tie.After-inside-passes) → let a = c .before .before .before .before .before .before .before .before .before .before .before .before .before .before .before .before .before .before .before .before .before .before .before .before .before .before .before .args in c .inside-passes .result .pairs ≡ length (flatMap (pairsBy (now (a .keys)) (now (a .stands))) (inCodes (now (a .codes)) (now (a .sellers)) (longLots (now (a .positions)) (near (c .before .before .before .before .before .before .before .before .before .before .before .before .before .before .before .before .before .before))) (inside (c .before .before .before .before .before .before .before .before .before .before .before .before))))
 inside-pairs c =
-    let a = c .before .before .before .before .before .before .before .before .before .before .before .before .before .before .before .before .before .before .before .before .before .before .before .before .before .before .args in
+    let a = c .before .before .before .before .before .before .before .before .before .before .before .before .before .before .before .before .before .before .before .before .before .before .before .before .before .before .before .args in
     c .inside-passes .ensures .1 .0
-    ∙ ap₂ (λ (bs xs : List ℕ). length (flatMap (pairsBy (now (a .keys)) (now (a .stands))) (inCodes (now (a .codes)) (now (a .sellers)) bs xs))) (inside-buyers (c .before .before .before .before .before .before .before)) (inside-front (c .before .before .before .before .before .before .before .before .before .before .before) .is)
+    ∙ ap₂ (λ (bs xs : List ℕ). length (flatMap (pairsBy (now (a .keys)) (now (a .stands))) (inCodes (now (a .codes)) (now (a .sellers)) bs xs))) (inside-buyers (c .before .before .before .before .before .before .before .before)) (inside-front (c .before .before .before .before .before .before .before .before .before .before .before .before) .is)
 
 run-requires : tie.Need-run-requires
 run-requires c κs =
     let ran = c .before .before in
-    let drew = ran .before .before .before .before .before .before .before .before .before .before .before in
+    let drew = ran .before .before .before .before .before .before .before .before .before .before .before .before in
     let start = drew .before .before .before .before .before .before .before .before .before .before .before .before .before .before .before in
     let e = start .pre in
     let a = start .args in
     let formed = ran .inside-passes .result in (
-      (omega (arith, e .held .few, e .held .keys-long), far-long-front (ran .before .before .before .before) .long ∙ sym (e .held .keys-long), ran .inside-passes .ensures .1 .1),
+      (omega (arith, e .held .few, e .held .keys-long), far-long-front (ran .before .before .before .before .before) .long ∙ sym (e .held .keys-long), ran .inside-passes .ensures .1 .1),
       subst₂
           (λ (bs xs : List ℕ). Sold (now (a .sellers)) (now (a .stands)) xs (length (now (a .keys))) × (formed .register .count + length (passLines (byKey (now (a .keys))) (now (a .sellers)) (now (a .stands)) bs xs) ≤ 382))
-          (sym (outside-buyers (ran .before .before .before .before))) (sym (beyond-front drew .is))
+          (sym (outside-buyers (ran .before .before .before .before .before))) (sym (beyond-front drew .is))
           (sold-of e (beyond-front drew .full) (drew .draw .ensures .1 .1 .1), omega (arith, room e (split-of drew (e .delivers)), lines-count (formed .register), ap length (inside-lines ran))),
     )
 
@@ -206,7 +210,7 @@ returns : tie.Need-returns
 returns c =
     let done = c .before .before in
     let ran = done .before .before .before in
-    let drew = ran .before .before .before .before .before .before .before .before .before .before .before in
+    let drew = ran .before .before .before .before .before .before .before .before .before .before .before .before in
     let start = drew .before .before .before .before .before .before .before .before .before .before .before .before .before .before .before in
     let a = start .args in
     let outer = outsideOf (now (a .positions)) (far (drew .before .before .before .before .before .before)) (beyond drew) in
@@ -214,13 +218,13 @@ returns c =
       λ ss ns d.
           let last = linesBy (now (a .keys)) (now (a .sellers)) (now (a .stands)) outer in
           done .run .ensures .0
-          ∙ ap₂ (λ (bs xs : List ℕ). linesIn (formed .register) ++ passLines (byKey (now (a .keys))) (now (a .sellers)) (now (a .stands)) bs xs) (outside-buyers (ran .before .before .before .before)) (beyond-front drew .is)
+          ∙ ap₂ (λ (bs xs : List ℕ). linesIn (formed .register) ++ passLines (byKey (now (a .keys))) (now (a .sellers)) (now (a .stands)) bs xs) (outside-buyers (ran .before .before .before .before .before)) (beyond-front drew .is)
           ∙ ap (λ (ls : List Line). ls ++ last) (inside-lines ran)
           ∙ lines-of (start .pre) d (split-of drew d),
       λ ss ns d.
           let last = pairsBy (now (a .keys)) (now (a .stands)) outer in
           done .run .ensures .1
-          ∙ ap₂ (λ (bs xs : List ℕ). formed .pairs + length (passPairs (byKey (now (a .keys))) (now (a .stands)) bs xs)) (outside-buyers (ran .before .before .before .before)) (beyond-front drew .is)
+          ∙ ap₂ (λ (bs xs : List ℕ). formed .pairs + length (passPairs (byKey (now (a .keys))) (now (a .stands)) bs xs)) (outside-buyers (ran .before .before .before .before .before)) (beyond-front drew .is)
           ∙ omega (arith, inside-pairs ran, length-append (flatMap (pairsBy (now (a .keys)) (now (a .stands))) (inCodes (now (a .codes)) (now (a .sellers)) (longLots (now (a .positions)) (near (drew .before .before .before .before .before .before))) (inside drew))) last, ap length (all-pairs d (split-of drew d))),
     )
 
@@ -246,6 +250,7 @@ form-spec =
     array-borrow-prefix-far-2
     slice-aggregate-keep-long-2
     keep-long-requires-2
+    nothing-requires
     array-share-prefix-near-2
     slice-aggregate-inside-passes
     array-share-prefix-inside

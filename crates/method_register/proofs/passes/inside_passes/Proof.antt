@@ -10,11 +10,8 @@ Inv-loop codes keys buyers sellers stands drawn formed₀ c₀ formed c = Ran co
 abbrev μ-loop : tie.MeasureT-loop
 μ-loop codes keys buyers sellers stands drawn formed₀ c₀ formed c = 64 - c
 
-nothing-requires : tie.Need-nothing-requires Inv-loop μ-loop
-nothing-requires c κs = search needs
-
 loop-holds : tie.Need-loop-holds Inv-loop μ-loop
-loop-holds c = ran-none (c .nothing .ensures .0) (c .nothing .ensures .1)
+loop-holds c = let start = c .before .before .before .before .before .before in ran-none (start .pre .0 .1) (start .pre .0 .2)
 
 cast-code : tie.Need-cast-code Inv-loop μ-loop
 cast-code c = omega (arith, c .before .loop .inv .within)
@@ -22,8 +19,8 @@ cast-code c = omega (arith, c .before .loop .inv .within)
 inside-pass-requires : tie.Need-inside-pass-requires Inv-loop μ-loop
 inside-pass-requires c κs =
     let at = c .before in
-    let start = at .before .before .before .before .before .before .before .before in
-    ((start .pre .0, omega (arith, at .loop .inv .few, at .loop .inv .within)), ran-fits (at .loop .inv) (omega arith) (start .pre .1))
+    let start = at .before .before .before .before .before .before .before in
+    ((start .pre .0 .0, omega (arith, at .loop .inv .few, at .loop .inv .within)), ran-fits (at .loop .inv) (omega arith) (start .pre .1))
 
 add-c : tie.Need-add-c Inv-loop μ-loop
 add-c c = search needs
@@ -34,7 +31,7 @@ loop-less c = search needs
 loop-again : tie.Need-loop-again Inv-loop μ-loop
 loop-again c =
     let at = c .before .before in
-    ran-next (at .loop .inv) (at .before .before .before .before .before .before .before .before .pre .0) (omega arith) (c .inside-pass .ensures .0) (c .inside-pass .ensures .1)
+    ran-next (at .loop .inv) (at .before .before .before .before .before .before .before .pre .0 .0) (omega arith) (c .inside-pass .ensures .0) (c .inside-pass .ensures .1)
 
 returns : tie.Need-returns Inv-loop μ-loop
 returns c = let all = ran-end (c .before .loop .inv) (omega arith) in (all .lines, (all .pairs, all .few))
@@ -45,7 +42,6 @@ inside-passes-spec =
     (tie.spec
     Inv-loop
     μ-loop
-    nothing-requires
     loop-holds
     cast-code
     inside-pass-requires
