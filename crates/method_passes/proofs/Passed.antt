@@ -1,14 +1,13 @@
--- A pass by its columns, and a pass with nothing to buy.
-use Rattle.numbers.proofs.Words.{ℕ, _+_, _<_, arith, _≡_, sym, ap, _∙_, List, [], length, length-map, entry, total, ℤ}
+-- A pass by its columns is the pass of the sections and the notices that have these columns (01, Expiry, 6.1).
+use Rattle.numbers.proofs.Words.{ℕ, _+_, _<_, arith, _≡_, sym, ap, _∙_, List, length, length-map, entry, ℤ}
 use Rattle.rules.specs.declared.book.{Section.Section, Notice.Notice}
 use Rattle.rules.specs.Book.{elevators}
 use Rattle.rules.specs.Expiry.{lowerSectionCode}
 use Rattle.rules.specs.Expiry.Passes.{Pair, Pass, sellersIn, elevatorsIn, elevatorLots, stageOne, stageTwo, pairsOf, linesOf}
 use Rattle.method_laws.specs.Columns.{byKey, Columns, Filed}
 use Rattle.method_passes.specs.Formed.{passPairs, passLines, linesFrom}
-use Rattle.method_passes.proofs.Stages.{known-pairs, no-pairs, no-lines, same-pairs, same-lines}
+use Rattle.method_passes.proofs.Stages.{known-pairs, same-pairs, same-lines}
 
--- a pass by its columns is the pass of the sections and the notices that have these columns (01, Expiry, 6.1)
 module _ {ss : List Section} {codes keys : List ℕ} {positions : List ℤ} {ns : List Notice} {sellers stands lots : List ℕ} (sections : Columns ss codes positions keys) (notices : Filed ns sellers stands lots)
     (pass : Pass) (long : length (pass .buyers) ≡ length ss) where
   pub pass-pairs : passPairs (byKey keys) stands (pass .buyers) (pass .drawn) ≡ pairsOf ss ns pass
@@ -30,13 +29,3 @@ module _ {ss : List Section} {codes keys : List ℕ} {positions : List ℤ} {ns 
       ∙ ap (λ (who : List ℕ). linesFrom (lowerSectionCode ss) who stands qs (pass .drawn)) (notices .sellers-are)
       ∙ ap (λ (at : List ℕ). linesFrom (lowerSectionCode ss) (sellersIn ns) at qs (pass .drawn)) (notices .stands-are)
       ∙ ap (λ (n : ℕ). stageTwo (lowerSectionCode ss) (sellersIn ns) (elevatorsIn ns) (length qs + n) qs (pass .drawn)) (length-map ns _)
-
--- a pass with nothing to buy forms no pair and no line (01, Expiry, 6.2)
-module _ (ss : List Section) (ns : List Notice) (pass : Pass) (none : total (pass .buyers) ≡ 0) where
-  pub nothing-paired : pairsOf ss ns pass ≡ []
-  unfolding pairsOf
-  nothing-paired = no-pairs (lowerSectionCode ss) (pass .buyers) none (length ss + elevators) (elevatorLots (elevatorsIn ns) (pass .drawn))
-
-  pub nothing-lined : linesOf ss ns pass ≡ []
-  unfolding linesOf
-  nothing-lined = no-lines (lowerSectionCode ss) (sellersIn ns) (elevatorsIn ns) (pairsOf ss ns pass) (pass .drawn) nothing-paired _

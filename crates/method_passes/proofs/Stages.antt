@@ -4,7 +4,7 @@ use Rattle.numbers.proofs.Entries.{entry-place, entry-part}
 use Rattle.numbers.proofs.Orders.{largest-same}
 use Rattle.rules.specs.Expiry.Passes.{Pair, Line, pairOf, offers, elevatorLots, fullestBuyer, fullestElevator, fullestPair, fullestNotice, stageOne, stageTwo}
 use Rattle.method_passes.specs.declared.{stage_two.Choice.Choice}
-use Rattle.method_passes.specs.Formed.{pairLeft, nextChoice, passPairs, Known}
+use Rattle.method_passes.specs.Formed.{pairLeft, nextChoice, passPairs, passLines, Known}
 use Rattle.method_passes.proofs.Arrays.{left-buyer, left-length}
 use Rattle.method_passes.proofs.Pairing as pairing
 use Rattle.method_passes.proofs.Lining as lining
@@ -55,15 +55,21 @@ module _ (lower : ℕ → ℕ → Bool) where
       let stocks = elevatorLots stands drawn in
       record { few = omega (arith, few, few-pairs (length buyers + 32) buyers stocks); buyer = known-pairs (length buyers + 32) buyers stocks }
 
-  -- with nothing to buy there is no pair, and with no pair no line
-  pub no-pairs : (buyers : List ℕ) → total buyers ≡ 0 → (n : ℕ) (stocks : List ℕ) → stageOne lower n buyers stocks ≡ []
-  no-pairs buyers none zero stocks = pairing.no-turn lower buyers stocks
-  no-pairs buyers none (suc n) stocks =
-      let b = fullestBuyer lower buyers in
-      pairing.one-turn lower buyers stocks n true (eq-eqb (pairing.both lower buyers stocks b) 0 (omega (arith, none, entry-part buyers b)))
+  -- a pass with nothing to buy forms no pair and no line (01, Expiry, 6.2)
+  module _ (sellers stands buyers drawn : List ℕ) (none : total buyers ≡ 0) where
+    no-pairs : (n : ℕ) (stocks : List ℕ) → stageOne lower n buyers stocks ≡ []
+    no-pairs zero stocks = pairing.no-turn lower buyers stocks
+    no-pairs (suc n) stocks =
+        let b = fullestBuyer lower buyers in
+        pairing.one-turn lower buyers stocks n true (eq-eqb (pairing.both lower buyers stocks b) 0 (omega (arith, none, entry-part buyers b)))
 
-  pub no-lines : (sellers stands : List ℕ) (ps : List Pair) (drawn : List ℕ) → ps ≡ [] → (n : ℕ) → stageTwo lower sellers stands n ps drawn ≡ []
-  no-lines sellers stands ps drawn none n = lining.nothing-lined lower sellers stands ps drawn (lining.no-pair lower sellers stands ps drawn (ap length none)) n
+    pub nothing-paired : passPairs lower stands buyers drawn ≡ []
+    nothing-paired = no-pairs (length buyers + 32) (elevatorLots stands drawn)
+
+    pub nothing-lined : passLines lower sellers stands buyers drawn ≡ []
+    nothing-lined =
+        let ps = passPairs lower stands buyers drawn in
+        lining.nothing-lined lower sellers stands ps drawn (lining.no-pair lower sellers stands ps drawn (ap length nothing-paired)) (length ps + length stands)
 
 -- two orders of the sections below a number
 module _ (f g : ℕ → ℕ → Bool) (sections : ℕ) (agree : (i j : ℕ) → i < sections → j < sections → f i j ≡ g i j) where
