@@ -1,5 +1,5 @@
 // The passes of an expiry one after the other.
-ghost use Rattle.rules.specs.Words.{ℕ, _≡_, _+_, _≤_, _<_, _++_, List, [], flatMap, length};
+ghost use Rattle.rules.specs.Words.{_≡_, _+_, _≤_, _<_, _++_, List, [], flatMap, length};
 ghost use Rattle.rules.specs.declared.book.{Section.Section, Notice.Notice};
 ghost use Rattle.rules.specs.Expiry.Call;
 ghost use Rattle.method_passes.specs.Formed.{linesIn};
