@@ -1,8 +1,8 @@
 -- The passes of an expiry by their columns, and what they ask of them.
-use Rattle.rules.specs.Words.{ℕ, _≡_, _≤_, _<_, cond, eqb, List, length, listed, ℤ, entry, entryℤ}
+use Rattle.rules.specs.Words.{ℕ, _≡_, _≤_, _<_, cond, eqb, List, length, listed, ℤ, entry, entryℤ, less}
 use Rattle.rules.specs.declared.book.{Section.Section, Notice.Notice}
 use Rattle.rules.specs.Book.{settlementCodes}
-use Rattle.rules.specs.Expiry.{isLong}
+use Rattle.rules.specs.Expiry.{isLong, Outside.outside}
 use Rattle.rules.specs.Expiry.Passes.{Pair, Line, Pass, sellersIn}
 use Rattle.rules.specs.Expiry.Call.{delivered, lines}
 use Rattle.method_laws.specs.Columns.{Columns, Filed, positionsOf, noticeLotsIn, byKey}
@@ -70,3 +70,9 @@ pub record Expiring (codes : List ℕ) (positions : List ℤ) (keys sellers stan
   pub ns : List Notice
   pub delivers : Delivers ss ns codes positions keys sellers stands lots kept
   pub few : length (lines ss ns) ≤ 382
+
+-- the lots kept, parted: what goes outside, and what stays inside (01, Expiry, 4.1; 01, Expiry, 4.2)
+pub record Parted (codes : List ℕ) (positions : List ℤ) (keys kept near far : List ℕ) : Type 0 where
+  pub far-is : (ss : List Section) → Columns ss codes positions keys → far ≡ outside ss kept
+  pub near-is : near ≡ less kept far
+  pub far-long : length far ≡ length kept

@@ -1,5 +1,5 @@
 // What a pass takes: lots of its buyers, and what is drawn for it of the notices.
-ghost use Rattle.rules.specs.Words.{ℕ, _≡_, _≤_, _<_, cond, length, entry};
+ghost use Rattle.rules.specs.Words.{ℕ, _≡_, _<_, cond, length, entry};
 ghost use Rattle.method_register.specs.Passes.{longLots, lotsInCode, drawnInCode};
 
 // The lots where the test passes, and 0 else.

@@ -2,10 +2,8 @@
 ghost use Rattle.rules.specs.Words.{ℕ, List, _≡_, _≤_, length, replicate, entry, less};
 ghost use Rattle.rules.specs.declared.book.{Section.Section, Notice.Notice};
 ghost use Rattle.rules.specs.Expiry.Drawing.{drawn};
-ghost use Rattle.rules.specs.Expiry.Outside;
-ghost use Rattle.method_laws.specs.Columns.{Columns};
 ghost use Rattle.method_steps.specs.Held.{Held};
-ghost use Rattle.method_register.specs.Passes.{Noticed, Drawing};
+ghost use Rattle.method_register.specs.Passes.{Parted, Noticed, Drawing};
 use method_giving::lists;
 use method_holding::drawing;
 use method_steps::outside;
@@ -36,8 +34,7 @@ pub fn split(
 )
     requires { ⌜ Held (now codes) (now positions) (now keys) (length (now kept)) × ((i : ℕ) → entry (now kept) i ≤ 1_000_000) ⌝ }
     requires { ⌜ (length (now near) ≡ length (now kept)) × (now far ≡ replicate (length (now kept)) 0) ⌝ }
-    ensures { λ _. ⌜ ((ss : List Section) → Columns ss (now (codes .entry)) (now (positions .entry)) (now (keys .entry)) → now (far .exit) ≡ Outside.outside ss (now (kept .entry))) ⌝ }
-    ensures { λ _. ⌜ now (near .exit) ≡ less (now (kept .entry)) (now (far .exit)) ⌝ }
+    ensures { λ _. ⌜ Parted (now (codes .entry)) (now (positions .entry)) (now (keys .entry)) (now (kept .entry)) (now (near .exit)) (now (far .exit)) ⌝ }
 {
     outside::outside(codes, positions, keys, kept, far);
     stay(kept, far, near);

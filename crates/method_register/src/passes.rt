@@ -1,9 +1,9 @@
 // The passes of an expiry one after the other.
-ghost use Rattle.rules.specs.Words.{ℕ, _≡_, _+_, _≤_, _<_, _++_, List, [], flatMap, length};
+ghost use Rattle.rules.specs.Words.{_≡_, _+_, _≤_, _<_, _++_, List, [], flatMap, length};
 ghost use Rattle.rules.specs.declared.book.{Section.Section, Notice.Notice};
 ghost use Rattle.rules.specs.Expiry.Call;
 ghost use Rattle.method_passes.specs.Formed.{linesIn};
-ghost use Rattle.method_register.specs.Passes.{inCode, inCodes, pairsBy, linesBy, Read, Delivers, Expiring};
+ghost use Rattle.method_register.specs.Passes.{inCode, inCodes, pairsBy, linesBy, Read, Delivers, Expiring, Parted};
 use crate::chosen;
 use crate::lots;
 use method_giving::lists;
@@ -87,6 +87,42 @@ fn inside_passes(
     formed
 }
 
+// The passes of the lots that stay inside, `near`, and of those that go outside, `far` (01, Expiry, 6.1).
+fn run_passes(
+    codes: &[u8],
+    positions: &[i64],
+    keys: &[u64],
+    sellers: &[u8],
+    stands: &[u8],
+    lots: &[u64],
+    kept: &[u64],
+    near: &mut [u64],
+    far: &mut [u64],
+) -> Formed
+    requires { ⌜ Expiring (now codes) (now positions) (now keys) (now sellers) (now stands) (now lots) (now kept) ⌝ }
+    requires { ⌜ Parted (now codes) (now positions) (now keys) (now kept) (now near) (now far) ⌝ }
+    ensures { λ r. ⌜ ((ss : List Section) (ns : List Notice) → Delivers ss ns (now (codes .entry)) (now (positions .entry)) (now (keys .entry)) (now (sellers .entry)) (now (stands .entry)) (now (lots .entry)) (now (kept .entry)) → linesIn (r .register) ≡ Call.lines ss ns) ⌝ }
+    ensures { λ r. ⌜ ((ss : List Section) (ns : List Notice) → Delivers ss ns (now (codes .entry)) (now (positions .entry)) (now (keys .entry)) (now (sellers .entry)) (now (stands .entry)) (now (lots .entry)) (now (kept .entry)) → r .pairs ≡ length (Call.pairs ss ns)) ⌝ }
+{
+    let filed = sellers.len();
+    let mut inside = [0; NOTICE_PLACES];
+    let mut beyond = [0; NOTICE_PLACES];
+    lots::draw(
+        positions,
+        sellers,
+        lots,
+        kept,
+        near,
+        &mut inside[..filed],
+        &mut beyond[..filed],
+    );
+    chosen::keep_long(positions, near);
+    chosen::keep_long(positions, far);
+    let start = nothing();
+    let formed = inside_passes(codes, keys, near, sellers, stands, &inside[..filed], start);
+    pass::run(keys, far, sellers, stands, &mut beyond[..filed], formed)
+}
+
 // The register of what is delivered, and how many pairs were formed (01, Expiry, 6.1; 01, Expiry, 7; 01, Forms, 2).
 pub fn form(
     codes: &[u8],
@@ -102,7 +138,6 @@ pub fn form(
     ensures { λ r. ⌜ ((ss : List Section) (ns : List Notice) → Delivers ss ns (now (codes .entry)) (now (positions .entry)) (now (keys .entry)) (now (sellers .entry)) (now (stands .entry)) (now (lots .entry)) (now (kept .entry)) → r .pairs ≡ length (Call.pairs ss ns)) ⌝ }
 {
     let held = kept.len();
-    let filed = sellers.len();
     let mut near = [0; SECTION_PLACES];
     let mut far = [0; SECTION_PLACES];
     lots::split(
@@ -113,35 +148,15 @@ pub fn form(
         &mut near[..held],
         &mut far[..held],
     );
-    let mut inside = [0; NOTICE_PLACES];
-    let mut beyond = [0; NOTICE_PLACES];
-    lots::draw(
+    run_passes(
+        codes,
         positions,
+        keys,
         sellers,
+        stands,
         lots,
         kept,
-        &near[..held],
-        &mut inside[..filed],
-        &mut beyond[..filed],
-    );
-    chosen::keep_long(positions, &mut near[..held]);
-    chosen::keep_long(positions, &mut far[..held]);
-    let start = nothing();
-    let formed = inside_passes(
-        codes,
-        keys,
-        &near[..held],
-        sellers,
-        stands,
-        &inside[..filed],
-        start,
-    );
-    pass::run(
-        keys,
+        &mut near[..held],
         &mut far[..held],
-        sellers,
-        stands,
-        &mut beyond[..filed],
-        formed,
     )
 }
