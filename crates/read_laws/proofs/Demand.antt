@@ -1,6 +1,6 @@
 -- Demand 3 of a file: the law over its calls, read off what the file's read hands out.
 use Rattle.numbers.proofs.Words.{ℕ, _+_, arith, _≡_, refl, sym, ap, subst, _∙_, Bool, true, false, true≢false, not, List, [], _∷_, _++_, flatMap, length, length-append, eqb, eqb-true, not-false, pos, _+ℤ_, _-ℤ_, some, Every}
-use Rattle.rules.specs.declared.book.{Book.Book}
+use Rattle.rules.specs.declared.book.{Book.Book, FileAnswer.FileAnswer}
 use Rattle.numbers.proofs.Tests.{or-left, or-right}
 use Rattle.numbers.proofs.Lists.{empty}
 use Rattle.numbers.proofs.Sums.{wholes}
@@ -8,7 +8,7 @@ use Rattle.numbers.proofs.Ranges.{sum-same}
 use Rattle.rules.specs.Units.{worth}
 use Rattle.rules.specs.Calls.{handedOut, newSection, withSection, sectionAnswer, traded, tradeAnswer, sessionAnswer, afterCondition, conditionAnswer, afterNotice, noticeAnswer, first}
 use Rattle.rules.specs.Expiry.Call.{Lists, afterExpiry, expiryRefusals, expiryAnswer, expiryLists, dayLast}
-use Rattle.rules.specs.File.{Lent, FileAnswer, readWhole, fileAnswer}
+use Rattle.rules.specs.File.{Lent, readWhole, fileAnswer}
 use Rattle.rules.specs.History.{Call, section, trade, session, condition, notice, expiry, answerOf, bookAfter, Accepted, accepted, Trade, tradeOf, trades, Session, sessionOf, sessions, Register, registerOf, registers, holds, anySession, upToLast, lastValue, net, entered, lotsWhere, Delivered, DemandThree, Holds}
 use Rattle.book_laws.proofs.Answers.{written, first-none}
 use Rattle.read_laws.specs.ReadCalls.{startOf, callsOf, AllAccepted, ReadByCalls, ReadIsCalls}

@@ -1,11 +1,11 @@
 -- The listing over what the writer is lent is the listing of the definitions (01, Program, 1).
 use Rattle.numbers.proofs.Words.{ℕ, _≤_, _<_, arith, _≡_, refl, sym, ap, ap₂, List, [], _∷_, append-assoc, append-nil, ℤ, pos, entry, entryℤ}
 use Rattle.numbers.specs.Text.{decimal, signedDecimal}
-use Rattle.rules.specs.declared.book.{Book.Book}
+use Rattle.rules.specs.declared.book.{Book.Book, FileAnswer.FileAnswer}
 use Rattle.rules.specs.Book.{sectionAt}
 use Rattle.rules.specs.Units.{tonnesOf}
 use Rattle.rules.specs.Expiry.Call.{Lists}
-use Rattle.rules.specs.File.{Lent, FileAnswer}
+use Rattle.rules.specs.File.{Lent}
 use Rattle.rules.specs.Listing.{row, lineRow, sectionRow, listingOf}
 use Rattle.listing.specs.Columns.{codeAt, headRow, lineRowOf, sectionRowOf, listing}
 use Rattle.listing.proofs.Laws.Parts.{joined}
