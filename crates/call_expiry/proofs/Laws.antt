@@ -1,5 +1,5 @@
 -- The number of an expiry, columns written over a lent list, and the columns of a register's lines.
-use Rattle.numbers.proofs.Words.{ℕ, _≤_, arith, _≡_, refl, sym, ap, ap₂, _∙_, Bool, true, false, not, cond, _||_, eqb, List, _∷_, [], _++_, map-map, length, take, drop, length-append, length-take-le, take-at, counted, some, over, entry, listed}
+use Rattle.numbers.proofs.Words.{ℕ, _≡_, refl, sym, ap, ap₂, _∙_, Bool, true, false, not, cond, _||_, eqb, List, _∷_, [], _++_, map-map, drop, counted, some, over, entry, listed}
 use Rattle.numbers.specs.Lists.{shorter}
 use Rattle.rules.specs.declared.book.{Book.Book}
 use Rattle.rules.specs.Book.{good}
@@ -34,19 +34,6 @@ module _ (g : Register) where
 
   pub lots-in : listed (g .count) (entry (g .lots)) ≡ lotsOf (linesIn g)
   lots-in = sym (map-map (λ (l : Line). l .lots) lineIn (counted 0 (g .count)))
-
--- the front of a local list, lent and filled by a call
-pub record Front {A : Type 0} (n : ℕ) (was front : List A) : Type 0 where
-  pub full : length front ≡ n
-  pub is : take n (front ++ drop n was) ≡ front
-  pub fits : n ≤ length (front ++ drop n was)
-  pub long : length (take n (front ++ drop n was)) ≡ n
-
-pub front-of : {A : Type 0} (n : ℕ) (was front : List A) → n ≤ length was → length front ≡ length (take n was) → Front n was front
-front-of n was front few kept =
-    let full : length front ≡ n = kept ∙ length-take-le n was few in
-    let is = take-at front (drop n was) n full in
-    record { full = full; is = is; fits = omega (arith, length-append front (drop n was), full); long = ap length is ∙ full }
 
 -- the number of an expiry on a good book, test after test (01, Expiry call, 1)
 abbrev pub byTests : Bool → Bool → Bool → Bool → ℕ

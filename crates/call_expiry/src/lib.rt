@@ -57,11 +57,13 @@ pub fn refusal(
     if !day_last(last) | (b.trades != 0) {
         return NOT_AFTER_DAY;
     }
-    if register_short(buyers.len(), elevators.len(), sellers.len(), lots.len()) {
+    let held = b.held;
+    let register = register_short(buyers.len(), elevators.len(), sellers.len(), lots.len());
+    let sections = (delivered.len() < held) | (terminated.len() < held);
+    if register {
         return REGISTER_SHORT;
     }
-    let held = b.held;
-    if (delivered.len() < held) | (terminated.len() < held) {
+    if sections {
         return SECTION_LISTS_SHORT;
     }
     ACCEPTED

@@ -1,5 +1,6 @@
 -- What each section delivers, then the register of it, then both are written.
-use Rattle.numbers.proofs.Words.{ℕ, _≤_, arith, _≡_, sym, ap, subst, _∙_, List, _++_, take, drop, length, replicate, length-take-le, over, now, needs}
+use Rattle.numbers.proofs.Words.{ℕ, arith, _≡_, sym, ap, subst, _∙_, List, _++_, take, drop, length, replicate, length-take-le, over, now, needs}
+use Rattle.numbers.proofs.Front.{Front, front-of}
 use Rattle.rules.specs.Book.{heldSections, filedNotices}
 use Rattle.rules.specs.Expiry.Call.{expiryWritten}
 use Rattle.rules.specs.Expiry.Passes.{Line, buyersOf, elevatorsOf, sellersOf, lotsOf}
@@ -11,7 +12,6 @@ use Rattle.method_passes.specs.Formed.{linesIn}
 use Rattle.method_passes.proofs.Arrays.{lines-count}
 use Rattle.method_register.specs.Passes.{Delivers}
 use Rattle.call_expiry.specs.Lent.{linesFor, deliveredOf}
-use Rattle.call_expiry.proofs.Laws.{Front, front-of}
 use Rattle.call_expiry.proofs.Book.{sections-held, few-lines, columns, expiring, lapsed-is}
 use Rattle.call_expiry.proofs.deliver.run.Statement.{statement}
 use Rattle.call_expiry.proofs.deliver.run.Tie as tie
