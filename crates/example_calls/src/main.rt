@@ -106,11 +106,23 @@ fn field(number: u64) {
 }
 
 fn sections(name: &[u8], lots: [u32; 4]) {
-    numbers(name, lots[0] as u64, lots[1] as u64, lots[2] as u64, lots[3] as u64);
+    numbers(
+        name,
+        lots[0] as u64,
+        lots[1] as u64,
+        lots[2] as u64,
+        lots[3] as u64,
+    );
 }
 
 fn line(buyer: u8, elevator: u8, seller: u8, lots: u32) {
-    numbers(b"line", buyer as u64, elevator as u64, seller as u64, lots as u64);
+    numbers(
+        b"line",
+        buyer as u64,
+        elevator as u64,
+        seller as u64,
+        lots as u64,
+    );
 }
 
 fn counts(a: ExpiryAnswer) -> Book {

@@ -11,7 +11,7 @@ use Rattle.method_laws.proofs.Delivery
 use Rattle.method_columns.proofs.Laws.{book-columns, code-within, position-within, seller-within, stand-within, lots-within}
 use Rattle.method_steps.specs.Held.{Held}
 use Rattle.method_register.specs.Passes.{Noticed, Expiring}
-use Rattle.call_expiry.specs.Lent.{linesFor, deliveredOf, ColumnsOf}
+use Rattle.method_delivery.specs.Lent.{linesFor, deliveredOf, ColumnsOf}
 
 module _ {b : Book} (book : Good b) where
   pub sections-held : length (heldSections b) ≡ b .held

@@ -6,9 +6,9 @@ use Rattle.rules.specs.Expiry.Failing.{noticed, failing}
 use Rattle.book_laws.proofs.Good.{Good, facts}
 use Rattle.method_laws.specs.Columns.{Small}
 use Rattle.method_columns.proofs.Laws.{failing-within}
-use Rattle.call_expiry.proofs.Book.{columns, held-columns, noticed-columns}
-use Rattle.call_expiry.proofs.deliver.keep.Statement.{statement}
-use Rattle.call_expiry.proofs.deliver.keep.Tie as tie
+use Rattle.method_delivery.proofs.Book.{columns, held-columns, noticed-columns}
+use Rattle.method_delivery.proofs.keep.Statement.{statement}
+use Rattle.method_delivery.proofs.keep.Tie as tie
 
 book : (c : tie.Start) → Good (c .args .b)
 book c = facts _ (c .pre .0)

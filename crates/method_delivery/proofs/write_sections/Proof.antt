@@ -4,8 +4,8 @@ use Rattle.numbers.proofs.Front.{Front, front-of}
 use Rattle.numbers.proofs.Ranges.{listed-entries}
 use Rattle.method_steps.proofs.Laws.{sizes-small, left-small}
 use Rattle.method_laws.specs.Columns.{Small}
-use Rattle.call_expiry.proofs.deliver.write_sections.Statement.{statement}
-use Rattle.call_expiry.proofs.deliver.write_sections.Tie as tie
+use Rattle.method_delivery.proofs.write_sections.Statement.{statement}
+use Rattle.method_delivery.proofs.write_sections.Tie as tie
 
 abbrev start : tie.After-terminated → tie.Start
 start c = c .before .before .before .before .before
