@@ -1,0 +1,72 @@
+// The expiry: which obligations lapse, and who sells wheat to whom at which elevator.
+ghost use Rattle.rules.specs.Words.{_≡_, true, _||_, ltb, length};
+ghost use Rattle.rules.specs.Book.{good};
+ghost use Rattle.rules.specs.Calls.{first};
+ghost use Rattle.rules.specs.Expiry.Call;
+ghost use Rattle.call_expiry.specs.Lent.{lists};
+use rules::book::Book;
+use rules::book::LastSession;
+use rules::limits::ACCEPTED;
+use rules::limits::EXPIRED;
+use rules::limits::NOT_AFTER_DAY;
+use rules::limits::REGISTER_PLACES;
+use rules::limits::REGISTER_SHORT;
+use rules::limits::SECTION_LISTS_SHORT;
+
+// Whether the last session was a day session (01, Expiry call, 1).
+fn day_last(last: LastSession) -> bool
+    ensures { λ r. ⌜ r ≡ Call.dayLast last ⌝ }
+{
+    match last {
+        LastSession::None => false,
+        LastSession::Day => true,
+        LastSession::Evening => false,
+    }
+}
+
+// Whether some register list has too few entries (01, Expiry call, 1).
+fn register_short(buyers: usize, elevators: usize, sellers: usize, lots: usize) -> bool
+    ensures { λ r. ⌜ r ≡ (ltb buyers 382 || (ltb elevators 382 || (ltb sellers 382 || ltb lots 382))) ⌝ }
+{
+    let places = REGISTER_PLACES;
+    (buyers < places) | ((elevators < places) | ((sellers < places) | (lots < places)))
+}
+
+// The number of an expiry on a good book (01, Expiry call, 1).
+pub fn refusal(
+    b: Book,
+    buyers: &[u8],
+    elevators: &[u8],
+    sellers: &[u8],
+    lots: &[u32],
+    delivered: &[u32],
+    terminated: &[u32],
+) -> u8
+    requires { ⌜ good b ≡ true ⌝ }
+    ensures { λ n. ⌜ n ≡ first (Call.expiryRefusals b (lists (now (buyers .entry)) (now (elevators .entry)) (now (sellers .entry)) (now (lots .entry)) (now (delivered .entry)) (now (terminated .entry)))) ⌝ }
+{
+    if b.expired {
+        return EXPIRED;
+    }
+    let last = b.last;
+    if !day_last(last) | (b.trades != 0) {
+        return NOT_AFTER_DAY;
+    }
+    if register_short(buyers.len(), elevators.len(), sellers.len(), lots.len()) {
+        return REGISTER_SHORT;
+    }
+    let held = b.held;
+    if (delivered.len() < held) | (terminated.len() < held) {
+        return SECTION_LISTS_SHORT;
+    }
+    ACCEPTED
+}
+
+// The book after its expiry (01, Expiry call, 3).
+pub fn expired(b: Book) -> Book
+    ensures { λ r. ⌜ r ≡ Call.afterExpiry b ⌝ }
+{
+    let mut next = b;
+    next.expired = true;
+    next
+}
