@@ -1,5 +1,5 @@
 -- What a session pays into a list: the margins themselves, or margins on top of what stood there.
-use Rattle.numbers.proofs.Words.{ℕ, _+_, _-_, _≤_, _<_, arith, _≡_, sym, ap, _∙_, ⊎-elim, true, false, List, [], length, getD, drop, length-map, List·getD-eq-default, getD-append-add, getD-drop, ℤ, pos, _+ℤ_, _-ℤ_, +ℤ-idl, +ℤ-idr, natAbs, SFits, w64, listed, entryℤ, over}
+use Rattle.numbers.proofs.Words.{ℕ, _+_, _-_, _≤_, _<_, arith, _≡_, sym, ap, _∙_, ⊎-elim, true, false, List, [], length, getD, drop, List·getD-eq-default, getD-append-add, getD-drop, ℤ, pos, _+ℤ_, _-ℤ_, +ℤ-idl, +ℤ-idr, natAbs, SFits, w64, listed, entryℤ, over}
 use Rattle.rules.specs.declared.book.{Book.Book}
 use Rattle.numbers.proofs.Tests.{below-or-not}
 use Rattle.numbers.proofs.Whole.{difference-within, sfits-size}
@@ -7,10 +7,11 @@ use Rattle.numbers.proofs.Lists.{over-at}
 use Rattle.numbers.proofs.Ranges.{listed-same, listed-front, listed-length, listed-at}
 use Rattle.value.proofs.Laws.{value-within, worth-within}
 use Rattle.rules.specs.Units.{worth}
-use Rattle.rules.specs.Book.{sectionAt, sectionOfNoughts, basisOf, heldSections, valueAt}
+use Rattle.rules.specs.Book.{sectionAt, sectionOfNoughts, basisOf, valueAt}
 use Rattle.rules.specs.Calls.{marginOf, margins}
 use Rattle.book_laws.proofs.Accepted.{NewSession}
-use Rattle.book_laws.proofs.Held.{held-good, held-basis, held-length}
+use Rattle.book_laws.proofs.Held.{held-good, held-basis}
+use Rattle.book_laws.proofs.Margins.{margins-length}
 use Rattle.book_laws.proofs.Effects.{Session.margin-at}
 use Rattle.call_session.specs.Paid.{paidTo, paidInto}
 
@@ -40,23 +41,21 @@ module _ {b : Book} {price room : ℕ} (s : NewSession b price room) where
       (listed-same (b .held) _ _ (λ i h. +ℤ-idl _)
       ∙ listed-front (marginOf (valueAt b price)) (b .sections) (sectionOfNoughts []) (b .held) (omega (arith, s .book .held, s .book .section-places)))
 
-  margins-length : length (margins b price) ≡ b .held
-  unfolding margins
-  margins-length = length-map (heldSections b) (marginOf (valueAt b price)) ∙ held-length b (s .book .section-places) (s .book .held)
-
   -- added up, each entry rises by its section's margin (01, Reading, 5)
-  pub paid-added : (list : List ℤ) (i : ℕ) → entryℤ (paidInto true b price list) i ≡ entryℤ list i +ℤ entryℤ (margins b price) i
+  pub paid-held : (list : List ℤ) (i : ℕ) → i < b .held → paidTo true b price list i ≡ entryℤ list i +ℤ entryℤ (margins b price) i
   unfolding paidTo
+  paid-held list i h = ap (λ (z : ℤ). entryℤ list i +ℤ z) (sym (margin-at b price (s .book) i h))
+
+  pub paid-added : (list : List ℤ) (i : ℕ) → entryℤ (paidInto true b price list) i ≡ entryℤ list i +ℤ entryℤ (margins b price) i
   paid-added list i =
-      let value = valueAt b price in
       let entries = listed (b .held) (paidTo true b price list) in
       let full = listed-length (b .held) (paidTo true b price list) in
       ⊎-elim
       (λ (h : i < b .held).
       over-at entries list i (pos 0) (omega (arith, h, full))
       ∙ listed-at (b .held) (paidTo true b price list) i (pos 0) h
-      ∙ ap (λ (z : ℤ). entryℤ list i +ℤ z) (sym (margin-at b price (s .book) i h)))
+      ∙ paid-held list i h)
       (λ (h : b .held ≤ i).
       over-past entries list i (pos 0) (omega (arith, h, full))
-      ∙ sym (ap (λ (z : ℤ). entryℤ list i +ℤ z) (List·getD-eq-default (margins b price) (pos 0) (omega (arith, h, margins-length))) ∙ +ℤ-idr (entryℤ list i)))
+      ∙ sym (ap (λ (z : ℤ). entryℤ list i +ℤ z) (List·getD-eq-default (margins b price) (pos 0) (omega (arith, h, margins-length b price (s .book)))) ∙ +ℤ-idr (entryℤ list i)))
       (below-or-not i (b .held))
