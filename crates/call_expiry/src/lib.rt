@@ -5,13 +5,18 @@ ghost use Rattle.rules.specs.Calls.{first};
 ghost use Rattle.rules.specs.Expiry.Call;
 ghost use Rattle.call_expiry.specs.Lent.{lists};
 use rules::book::Book;
+use rules::book::ExpiryAnswer;
 use rules::book::LastSession;
 use rules::limits::ACCEPTED;
+use rules::limits::BAD_BOOK;
 use rules::limits::EXPIRED;
 use rules::limits::NOT_AFTER_DAY;
 use rules::limits::REGISTER_PLACES;
 use rules::limits::REGISTER_SHORT;
 use rules::limits::SECTION_LISTS_SHORT;
+
+pub mod deliver;
+mod written;
 
 // Whether the last session was a day session (01, Expiry call, 1).
 fn day_last(last: LastSession) -> bool
@@ -69,4 +74,45 @@ pub fn expired(b: Book) -> Book
     let mut next = b;
     next.expired = true;
     next
+}
+
+// An expiry: the register, what is delivered and terminated, and the book that has expired; or a refusal with the book and all lists as they were
+// (01, Expiry call, 1 and 2 and 3; 01, Expiry, 7; 01, Forms, 2; 01, Book, 5 and 6 and 7; 01, Bound, a).
+pub fn expiry(
+    b: Book,
+    buyers: &mut [u8],
+    elevators: &mut [u8],
+    sellers: &mut [u8],
+    lots: &mut [u32],
+    delivered: &mut [u32],
+    terminated: &mut [u32],
+) -> ExpiryAnswer
+    ensures { λ a. ⌜ a ≡ Call.expiryAnswer b (lists (now (buyers .entry)) (now (elevators .entry)) (now (sellers .entry)) (now (lots .entry)) (now (delivered .entry)) (now (terminated .entry))) ⌝ }
+    ensures { λ _. ⌜ lists (now (buyers .exit)) (now (elevators .exit)) (now (sellers .exit)) (now (lots .exit)) (now (delivered .exit)) (now (terminated .exit)) ≡ Call.expiryLists b (lists (now (buyers .entry)) (now (elevators .entry)) (now (sellers .entry)) (now (lots .entry)) (now (delivered .entry)) (now (terminated .entry))) ⌝ }
+{
+    if !judge::good(b) {
+        return ExpiryAnswer {
+            number: BAD_BOOK,
+            pairs: 0,
+            lines: 0,
+            book: b,
+        };
+    }
+    let number = refusal(b, buyers, elevators, sellers, lots, delivered, terminated);
+    if number != ACCEPTED {
+        return ExpiryAnswer {
+            number,
+            pairs: 0,
+            lines: 0,
+            book: b,
+        };
+    }
+    let counts = deliver::deliver(b, buyers, elevators, sellers, lots, delivered, terminated);
+    let book = expired(b);
+    ExpiryAnswer {
+        number,
+        pairs: counts.pairs,
+        lines: counts.lines,
+        book,
+    }
 }
