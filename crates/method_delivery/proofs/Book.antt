@@ -1,17 +1,17 @@
 -- The columns of a good book have what the method asks of them.
-use Rattle.numbers.proofs.Words.{ℕ, _≤_, _<_, arith, _≡_, sym, ap, ap₂, _∙_, List, map, map-map, length, length-map, ℤ, natAbs, bigEndian, less}
+use Rattle.numbers.proofs.Words.{ℕ, _≤_, arith, _≡_, sym, ap, ap₂, _∙_, List, map, map-map, length, length-map, ℤ, natAbs, bigEndian, less}
 use Rattle.rules.specs.declared.book.{Book.Book, Section.Section}
 use Rattle.rules.specs.Book.{heldSections, filedNotices, positionOf}
 use Rattle.rules.specs.Expiry.Call.{terminated}
 use Rattle.book_laws.proofs.Good.{Good}
 use Rattle.book_laws.proofs.Held.{held-length, filed-length, held-codes, held-told, filed-good}
 use Rattle.method_laws.specs.Columns.{Columns, Small}
-use Rattle.method_laws.proofs.Columns.{codes-long, positions-long, sellers-long, stands-long, lots-long}
+use Rattle.method_laws.proofs.Columns.{codes-long, positions-long, sellers-long, lots-long}
 use Rattle.method_laws.proofs.Delivery
 use Rattle.method_columns.proofs.Laws.{book-columns, code-within, position-within, seller-within, stand-within, lots-within}
 use Rattle.method_steps.specs.Held.{Held}
 use Rattle.method_register.specs.Passes.{Noticed, Expiring}
-use Rattle.call_expiry.specs.Lent.{linesFor, deliveredOf, ColumnsOf}
+use Rattle.method_delivery.specs.Lent.{linesFor, deliveredOf, ColumnsOf}
 
 module _ {b : Book} (book : Good b) where
   pub sections-held : length (heldSections b) ≡ b .held

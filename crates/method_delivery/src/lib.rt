@@ -1,12 +1,11 @@
-// The work of an expiry: the method on the columns of a good book, and what it writes.
+// The method whole, on the columns of a good book, and what it writes into the lists of an expiry.
 ghost use Rattle.rules.specs.Words.{ℕ, _≡_, _≤_, true, map, natAbs, length, entryℤ, less, over};
 ghost use Rattle.rules.specs.Book.{good};
 ghost use Rattle.rules.specs.Expiry.Call;
 ghost use Rattle.rules.specs.Expiry.Passes.{buyersOf, elevatorsOf, sellersOf, lotsOf};
 ghost use Rattle.method_laws.specs.Columns.{Small};
 ghost use Rattle.method_passes.specs.Formed.{linesIn};
-ghost use Rattle.call_expiry.specs.Lent.{lists, pairsFor, linesFor, deliveredOf, ColumnsOf, Room};
-use crate::written;
+ghost use Rattle.method_delivery.specs.Lent.{lists, pairsFor, linesFor, deliveredOf, ColumnsOf, Room};
 use method_columns::failing;
 use method_columns::notices;
 use method_columns::sections;
@@ -16,6 +15,8 @@ use method_steps::delivered;
 use rules::book::Book;
 use rules::limits::NOTICE_PLACES;
 use rules::limits::SECTION_PLACES;
+
+mod written;
 
 // How many pairs and lines an expiry formed.
 pub struct Counts {

@@ -1,8 +1,8 @@
 -- Each list gets its column of the lines.
 use Rattle.numbers.proofs.Words.{ℕ, _≤_, arith, _≡_, ap, _∙_, List, length, over, now, needs}
-use Rattle.call_expiry.proofs.Laws.{buyers-in, elevators-in, sellers-in, lots-in}
-use Rattle.call_expiry.proofs.deliver.write_register.Statement.{statement}
-use Rattle.call_expiry.proofs.deliver.write_register.Tie as tie
+use Rattle.method_delivery.proofs.Laws.{buyers-in, elevators-in, sellers-in, lots-in}
+use Rattle.method_delivery.proofs.write_register.Statement.{statement}
+use Rattle.method_delivery.proofs.write_register.Tie as tie
 
 -- the register has a place for each of so many lines
 placed : {n m : ℕ} → n ≤ 382 → m ≡ 382 → n ≤ m

@@ -1,9 +1,9 @@
 -- The columns of the book stand in six local lists.
-use Rattle.numbers.proofs.Words.{ℕ, _≤_, arith, _≡_, refl, sym, _∙_, List, take, length, replicate, length-take-le, ℤ, pos, needs}
+use Rattle.numbers.proofs.Words.{ℕ, arith, _≡_, refl, sym, _∙_, List, take, length, replicate, length-take-le, ℤ, pos, needs}
+use Rattle.numbers.proofs.Front.{Front, front-of}
 use Rattle.book_laws.proofs.Good.{Good, facts}
-use Rattle.call_expiry.proofs.Laws.{Front, front-of}
-use Rattle.call_expiry.proofs.deliver.deliver.Statement.{statement}
-use Rattle.call_expiry.proofs.deliver.deliver.Tie as tie
+use Rattle.method_delivery.proofs.deliver.Statement.{statement}
+use Rattle.method_delivery.proofs.deliver.Tie as tie
 
 book : (c : tie.Start) → Good (c .args .b)
 book c = facts _ (c .pre .0)

@@ -1,15 +1,14 @@
 -- Steps 1 to 3, one after the other; two local lists on the way.
-use Rattle.numbers.proofs.Words.{ℕ, _≤_, arith, _≡_, refl, sym, ap, subst, _∙_, List, length, replicate, length-take-le, listed, now, needs}
+use Rattle.numbers.proofs.Words.{ℕ, _≤_, arith, _≡_, sym, ap, subst, _∙_, length, replicate, length-take-le, listed, now, needs}
+use Rattle.numbers.proofs.Front.{noughts-front, Front, front-of}
 use Rattle.rules.specs.Book.{heldSections, filedNotices}
 use Rattle.rules.specs.Expiry.Failing.{noticed, failing}
 use Rattle.book_laws.proofs.Good.{Good, facts}
 use Rattle.method_laws.specs.Columns.{Small}
 use Rattle.method_columns.proofs.Laws.{failing-within}
-use Rattle.method_steps.proofs.Laws.{noughts-front}
-use Rattle.call_expiry.proofs.Laws.{Front, front-of}
-use Rattle.call_expiry.proofs.Book.{columns, held-columns, noticed-columns}
-use Rattle.call_expiry.proofs.deliver.keep.Statement.{statement}
-use Rattle.call_expiry.proofs.deliver.keep.Tie as tie
+use Rattle.method_delivery.proofs.Book.{columns, held-columns, noticed-columns}
+use Rattle.method_delivery.proofs.keep.Statement.{statement}
+use Rattle.method_delivery.proofs.keep.Tie as tie
 
 book : (c : tie.Start) → Good (c .args .b)
 book c = facts _ (c .pre .0)

@@ -1,11 +1,11 @@
 -- What is terminated stands in a local list on its way.
-use Rattle.numbers.proofs.Words.{ℕ, _≤_, arith, _≡_, sym, ap, subst, _∙_, List, length, replicate, length-take-le, map, natAbs, listed, entry, less, over, now, needs}
+use Rattle.numbers.proofs.Words.{ℕ, arith, _≡_, sym, ap, subst, _∙_, List, length, replicate, length-take-le, map, natAbs, listed, entry, less, over, now, needs}
+use Rattle.numbers.proofs.Front.{Front, front-of}
 use Rattle.numbers.proofs.Ranges.{listed-entries}
 use Rattle.method_steps.proofs.Laws.{sizes-small, left-small}
 use Rattle.method_laws.specs.Columns.{Small}
-use Rattle.call_expiry.proofs.Laws.{Front, front-of}
-use Rattle.call_expiry.proofs.deliver.write_sections.Statement.{statement}
-use Rattle.call_expiry.proofs.deliver.write_sections.Tie as tie
+use Rattle.method_delivery.proofs.write_sections.Statement.{statement}
+use Rattle.method_delivery.proofs.write_sections.Tie as tie
 
 abbrev start : tie.After-terminated → tie.Start
 start c = c .before .before .before .before .before

@@ -1,9 +1,9 @@
 -- The loop's invariant: the first i entries are those of `from`.
-use Rattle.numbers.proofs.Words.{_-_, _≤_, _<_, arith, refl, length, entry}
+use Rattle.numbers.proofs.Words.{_-_, _≤_, arith, refl, length, entry}
 use Rattle.numbers.proofs.Filled.{Filled, filled-none, filled-length, filled-next}
-use Rattle.call_expiry.proofs.Laws.{copied}
-use Rattle.call_expiry.proofs.written.numbers.Statement.{statement}
-use Rattle.call_expiry.proofs.written.numbers.Tie as tie
+use Rattle.method_delivery.proofs.Laws.{copied}
+use Rattle.method_delivery.proofs.written.numbers.Statement.{statement}
+use Rattle.method_delivery.proofs.written.numbers.Tie as tie
 
 abbrev Inv-loop : tie.InvT-loop
 Inv-loop from count to₀ i₀ to i = (i ≤ count) × Filled (entry from) to₀ to i
