@@ -1,4 +1,4 @@
-use Rattle.numbers.proofs.Words.{ℕ, _-_, _≤_, _<_, arith, _≡_, refl, sym, ap, ap₂, subst, _∙_, cond, List, [], _++_, map, length, set, take, drop, ℤ, pos, _+ℤ_, entryℤ, natAbs, w64, SFits, toZ, ofZ, toZ-ofZ, needs}
+use Rattle.numbers.proofs.Words.{_-_, _≤_, _<_, arith, _≡_, refl, sym, ap, ap₂, subst, _∙_, cond, List, [], _++_, map, length, set, take, drop, ℤ, pos, _+ℤ_, entryℤ, natAbs, w64, SFits, toZ, ofZ, toZ-ofZ, needs}
 use Rattle.rules.specs.declared.{book.Section.Section, units.Kopecks.Kopecks}
 use Rattle.numbers.proofs.Lists.{Has, has, written-next}
 use Rattle.numbers.proofs.Filled.{Filled, filled-none, filled-length, filled-next, filled-here}
