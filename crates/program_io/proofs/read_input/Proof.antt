@@ -1,3 +1,4 @@
+-- What was read so far lies within the buffer, whose length stays.
 use Rattle.numbers.proofs.Words.{needs, arith, _≡_, _-_, length}
 use Rattle.io.specs.Counts.{Counts}
 use Rattle.io.proofs.Counting.{counts}
@@ -49,12 +50,6 @@ part-count-end c = search needs
 count-requires : tie.Need-count-requires Inv-loop μ-loop
 count-requires c κs = search needs
 
-same-length-2 : tie.Need-same-length-2 Inv-loop μ-loop
-same-length-2 c = search needs
-
-returns-2 : tie.Need-returns-2 Inv-loop μ-loop
-returns-2 c = counts _ _ (omega arith)
-
 add-count : tie.Need-add-count Inv-loop μ-loop
 add-count c = search needs
 
@@ -64,11 +59,17 @@ loop-less c = search needs
 loop-again : tie.Need-loop-again Inv-loop μ-loop
 loop-again c = (search needs, counts _ _ (omega arith))
 
+same-length-2 : tie.Need-same-length-2 Inv-loop μ-loop
+same-length-2 c = search needs
+
+returns-2 : tie.Need-returns-2 Inv-loop μ-loop
+returns-2 c = search needs
+
 same-length-3 : tie.Need-same-length-3 Inv-loop μ-loop
 same-length-3 c = search needs
 
 returns-3 : tie.Need-returns-3 Inv-loop μ-loop
-returns-3 c = search needs
+returns-3 c = counts _ _ (omega arith)
 
 pub read-input-spec : {M : Type 1} → statement M
 read-input-spec =
@@ -89,10 +90,10 @@ read-input-spec =
     part-count-start
     part-count-end
     count-requires
-    same-length-2
-    returns-2
     add-count
     loop-less
     loop-again
+    same-length-2
+    returns-2
     same-length-3
     returns-3)
