@@ -1,5 +1,5 @@
 -- The first refusal of a list, and the answer under a number.
-use Rattle.numbers.proofs.Words.{ℕ, _≡_, refl, sym, ap, _∙_, Bool, true, false, not, List, [], _∷_, _++_, eqb, ne-eqb, eqb-false, not-true, every}
+use Rattle.numbers.proofs.Words.{ℕ, _≡_, refl, sym, ap, _∙_, Bool, true, false, not, cond, List, [], _∷_, _++_, eqb, ne-eqb, eqb-false, not-true, every}
 use Rattle.rules.specs.declared.book.{Answer.Answer, Book.Book}
 use Rattle.numbers.proofs.Tests.{both}
 use Rattle.rules.specs.Book.{good}
@@ -22,6 +22,16 @@ kept n number new old e ne = rw (sym e, ne-eqb n 0 ne, handedOut)
 
 pub written : {A : Type 0} (n number : ℕ) (new old : A) → n ≡ number → n ≡ 0 → new ≡ handedOut number new old
 written n number new old e z = rw (sym e, z)
+
+-- the first refusal of a list, or what the others say
+pub says : (number : ℕ) (condition : Bool) (rest : List Refusal) → first (number if condition ∷ rest) ≡ cond condition number (first rest)
+unfolding first
+says number true rest = refl
+says number false rest = refl
+
+pub says-none : first [] ≡ 0
+unfolding first
+says-none = refl
 
 -- a book that breaks its rules is refused before all else (01, Book, 5)
 pub bad-book : (b : Book) (rest : List Refusal) → good b ≡ false → 1 ≡ first (1 if not (good b) ∷ rest)

@@ -1,21 +1,11 @@
-use Rattle.numbers.proofs.Words.{ℕ, _<_, arith, _≡_, refl, sym, _∙_, Bool, true, false, cond, List, [], _∷_, _++_, needs}
-use Rattle.rules.specs.Calls.{Refusal, _if_, first, tradeNumber, partyRefusals, sizeRefusals, roomRefusals}
+use Rattle.numbers.proofs.Words.{_<_, arith, _≡_, sym, _∙_, List, _++_, needs}
+use Rattle.rules.specs.Calls.{Refusal, first, tradeNumber, partyRefusals, sizeRefusals, roomRefusals}
 use Rattle.book_laws.proofs.Accepted.{Parties, parties, sizes, parties-numbered, sizes-numbered}
-use Rattle.book_laws.proofs.Answers.{first-hit, first-pass}
+use Rattle.book_laws.proofs.Answers.{says, says-none, first-hit, first-pass}
 use Rattle.book_laws.proofs.Good.{Good, facts}
 use Rattle.book_laws.proofs.Held.{held-good}
 use Rattle.call_trade.proofs.refusal.Statement.{statement}
 use Rattle.call_trade.proofs.refusal.Tie as tie
-
--- the first refusal of a list, or what the others say
-says : (number : ℕ) (condition : Bool) (rest : List Refusal) → first (number if condition ∷ rest) ≡ cond condition number (first rest)
-unfolding first
-says number true rest = refl
-says number false rest = refl
-
-says-none : first [] ≡ 0
-unfolding first
-says-none = refl
 
 -- the three groups of refusals
 abbrev party : tie.Start → List Refusal

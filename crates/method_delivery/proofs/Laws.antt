@@ -1,0 +1,30 @@
+-- Columns written over a lent list, and the columns of a register's lines.
+use Rattle.numbers.proofs.Words.{ℕ, _≡_, sym, ap₂, _∙_, List, _++_, map-map, drop, counted, over, entry, listed}
+use Rattle.numbers.proofs.Ranges.{listed-length}
+use Rattle.numbers.proofs.Filled.{Filled}
+use Rattle.rules.specs.Expiry.Passes.{Line, buyersOf, elevatorsOf, sellersOf, lotsOf}
+use Rattle.method_passes.specs.declared.register.{Register.Register}
+use Rattle.method_passes.specs.Formed.{linesIn}
+
+-- a list filled by the first entries of another (01, Expiry call, 2)
+pub copied : (from : List ℕ) (count : ℕ) {was now : List ℕ} {i : ℕ} → Filled (entry from) was now i → i ≡ count → now ≡ over (listed count (entry from)) was
+copied from count {was} filled e =
+    filled .entries
+    ∙ ap₂ (λ (n m : ℕ). listed n (entry from) ++ drop m was) e (e ∙ sym (listed-length count (entry from)))
+
+-- the columns of a register's lines (01, Expiry call, 2)
+module _ (g : Register) where
+  abbrev lineIn : ℕ → Line
+  lineIn k = record { buyer = entry (g .buyers) k; elevator = entry (g .elevators) k; seller = entry (g .sellers) k; lots = entry (g .lots) k }
+
+  pub buyers-in : listed (g .count) (entry (g .buyers)) ≡ buyersOf (linesIn g)
+  buyers-in = sym (map-map (λ (l : Line). l .buyer) lineIn (counted 0 (g .count)))
+
+  pub elevators-in : listed (g .count) (entry (g .elevators)) ≡ elevatorsOf (linesIn g)
+  elevators-in = sym (map-map (λ (l : Line). l .elevator) lineIn (counted 0 (g .count)))
+
+  pub sellers-in : listed (g .count) (entry (g .sellers)) ≡ sellersOf (linesIn g)
+  sellers-in = sym (map-map (λ (l : Line). l .seller) lineIn (counted 0 (g .count)))
+
+  pub lots-in : listed (g .count) (entry (g .lots)) ≡ lotsOf (linesIn g)
+  lots-in = sym (map-map (λ (l : Line). l .lots) lineIn (counted 0 (g .count)))
