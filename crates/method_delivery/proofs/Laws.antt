@@ -1,16 +1,8 @@
--- Columns written over a lent list, and the columns of a register's lines.
-use Rattle.numbers.proofs.Words.{ℕ, _≡_, sym, ap₂, _∙_, List, _++_, map-map, drop, counted, over, entry, listed}
-use Rattle.numbers.proofs.Ranges.{listed-length}
-use Rattle.numbers.proofs.Filled.{Filled}
+-- The columns of a register's lines.
+use Rattle.numbers.proofs.Words.{ℕ, _≡_, sym, map-map, counted, entry, listed}
 use Rattle.rules.specs.Expiry.Passes.{Line, buyersOf, elevatorsOf, sellersOf, lotsOf}
 use Rattle.method_passes.specs.declared.register.{Register.Register}
 use Rattle.method_passes.specs.Formed.{linesIn}
-
--- a list filled by the first entries of another (01, Expiry call, 2)
-pub copied : (from : List ℕ) (count : ℕ) {was now : List ℕ} {i : ℕ} → Filled (entry from) was now i → i ≡ count → now ≡ over (listed count (entry from)) was
-copied from count {was} filled e =
-    filled .entries
-    ∙ ap₂ (λ (n m : ℕ). listed n (entry from) ++ drop m was) e (e ∙ sym (listed-length count (entry from)))
 
 -- the columns of a register's lines (01, Expiry call, 2)
 module _ (g : Register) where
