@@ -3,7 +3,10 @@ use Rattle.numbers.proofs.Words.{ℕ, _≤_, _<_, _%_, arith, _≡_, refl, Bool
 use Rattle.rules.specs.declared.book.{Book.Book}
 use Rattle.numbers.proofs.Tests.{both, or-left, or-right}
 use Rattle.rules.specs.Book.{good, lotGood, stepsGood, factorGood, sectionCodeGood, byteGood, sectionAt, positionOf, heldSections, filedNotices}
-use Rattle.rules.specs.Calls.{first, unknown, openingNumber, sectionNumber, sectionCodeHeld, tradeNumber, partyRefusals, sizeRefusals, roomRefusals, exceeds, sessionNumber, conditionNumber, noticeNumber, noticeFiled}
+use Rattle.rules.specs.Calls.{first, unknown, openingNumber, sectionNumber, sectionCodeHeld, tradeNumber, partyRefusals, sizeRefusals, roomRefusals, exceeds, sessionNumber, conditionNumber, noticeNumber, noticeFiled, sectionAnswer, tradeAnswer, sessionAnswer, conditionAnswer, noticeAnswer}
+use Rattle.rules.specs.Expiry.Call.{expiryRefusals, expiryAnswer}
+use Rattle.rules.specs.History.{Call, answerOf}
+use Rattle.rules.specs.History as call
 use Rattle.book_laws.proofs.Answers.{first-none, first-none-append, numbered}
 use Rattle.book_laws.proofs.Good.{Between, Good, facts, between-facts}
 
@@ -183,3 +186,13 @@ notice b i elevator lots e =
       fresh = fresh .0;
       room = leb-false _ _ (room .0);
     }
+
+-- any accepted call was given a book that has not expired (01, Section, 1; 01, Expiry call, 3)
+pub running : (b : Book) (c : Call) → answerOf b c .number ≡ 0 → b .expired ≡ false
+unfolding answerOf sectionAnswer tradeAnswer sessionAnswer conditionAnswer noticeAnswer expiryAnswer expiryRefusals
+running b (call.section settlement code participant seller) e = section b settlement code e .running
+running b (call.trade buyer seller price lots) e = trade b buyer seller price lots e .party .running
+running b (call.session price list) e = session b price (length list) e .running
+running b (call.condition i met) e = condition b i e .running
+running b (call.notice i elevator lots) e = notice b i elevator lots e .running
+running b (call.expiry ls) e = first-none _ _ (omega arith) (first-none _ _ (omega arith) e .1) .0

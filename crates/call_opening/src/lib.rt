@@ -42,7 +42,7 @@ fn blank_notice() -> Notice
 }
 
 // A book of the terms and of noughts everywhere else.
-fn blank_book(lot: u32, w: u32, r: u32) -> Book
+pub fn blank_book(lot: u32, w: u32, r: u32) -> Book
     ensures { λ b. ⌜ b ≡ opened lot w r ⌝ }
 {
     let sections = [blank_section(); 128];

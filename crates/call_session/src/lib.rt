@@ -1,7 +1,10 @@
 // A session: margins are paid, and bases start anew from the session's value.
-ghost use Rattle.rules.specs.Words.{_≡_, true, _++_, _≤_, natAbs, length, drop};
+ghost use Rattle.rules.specs.Words.{ℕ, _≡_, true, cond, _≤_, _<_, natAbs, length, pos, _+ℤ_};
 ghost use Rattle.rules.specs.Book.{good, positionOf, basisOf};
 ghost use Rattle.rules.specs.Calls as Rules;
+ghost use Rattle.call_session.specs.Paid.{paidTo, paidInto};
+ghost use mir.Syntax.{w64};
+ghost use mir.Val.{SFits};
 use judge::terms;
 use rules::book::Answer;
 use rules::book::Book;
@@ -68,11 +71,22 @@ fn settled(s: Section, value: Kopecks) -> Section
     next
 }
 
-// The book after the session; each section's margin goes into its place of the list (01, Session, 3).
-pub fn after_session(b: Book, price: u32, margins: &mut [i64]) -> Book
-    requires { ⌜ Rules.sessionNumber b price (length (now margins)) ≡ 0 ⌝ }
+// A margin, on top of the entry where margins are added up (01, Session, 3; 01, Reading, 5).
+fn paid(added: bool, entry: i64, margin: i64) -> i64
+    requires { ⌜ SFits w64 (cond added entry (pos 0) +ℤ margin) ⌝ }
+    ensures { λ r. ⌜ r ≡ cond added entry (pos 0) +ℤ margin ⌝ }
+{
+    if added {
+        return signed::sum(entry, margin);
+    }
+    margin
+}
+
+// The book after the session. Each section's margin goes into its place of the list, or is added to what stands there (01, Session, 3; 01, Reading, 5).
+pub fn after_session(b: Book, price: u32, added: bool, list: &mut [i64]) -> Book
+    requires { ⌜ (Rules.sessionNumber b price (length (now list)) ≡ 0) × ((i : ℕ) → i < b .held → SFits w64 (paidTo added b price (now list) i)) ⌝ }
     ensures { λ r. ⌜ r ≡ Rules.afterSession b price ⌝ }
-    ensures { λ r. ⌜ now (margins .exit) ≡ Rules.margins b price ++ drop (length (Rules.margins b price)) (now (margins .entry)) ⌝ }
+    ensures { λ r. ⌜ now (list .exit) ≡ paidInto added b price (now (list .entry)) ⌝ }
 {
     let value = terms::value_at(b.w, b.r, price);
     let held = b.held;
@@ -80,7 +94,8 @@ pub fn after_session(b: Book, price: u32, margins: &mut [i64]) -> Book
     let mut i = 0;
     while i < held {
         let s = b.sections[i];
-        margins[i] = margin(s, value);
+        let entry = list[i];
+        list[i] = paid(added, entry, margin(s, value));
         sections[i] = settled(s, value);
         i += 1;
     }
@@ -118,6 +133,6 @@ pub fn hold_session(b: Book, price: u32, margins: &mut [i64]) -> Answer
     if number != ACCEPTED {
         return Answer { number, book: b };
     }
-    let book = after_session(b, price, margins);
+    let book = after_session(b, price, false, margins);
     Answer { number, book }
 }

@@ -6,7 +6,7 @@ use Rattle.rules.specs.Expiry.Call.{expiryAnswer, afterExpiry}
 use Rattle.rules.specs.History.{Call, section, trade, session, condition, notice, expiry, answerOf, Accepted, Register, registerOf, trades, registers, Delivered, DemandThree}
 use Rattle.book_laws.proofs.Answers.{written}
 use Rattle.demand.proofs.Cut.{more, registers-more}
-use Rattle.demand.proofs.Refused.{running}
+use Rattle.book_laws.proofs.Accepted.{running}
 use Rattle.demand.proofs.Run.{run}
 use Rattle.demand.proofs.State.{Reached, opened-reached, reached-next}
 use Rattle.demand.proofs.Delivers.{delivers}

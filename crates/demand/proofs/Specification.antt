@@ -10,9 +10,10 @@ use Rattle.rules.specs.Calls.{openingNumber, sessionMargins, marginOf, followin
 use Rattle.rules.specs.Expiry.Call.{dayLast}
 use Rattle.rules.specs.History.{Call, answerOf, bookAfter, Accepted, Trade, Session, tradeOf, sessionOf, trades, sessions, holds, upToLast, sinceLast, lastValue, anySession, evening, sided, net, entered, rise, dayMargin, specified, MarginsSpecified}
 use Rattle.book_laws.proofs.Accepted as judged
+use Rattle.book_laws.proofs.Margins.{margins-written}
 use Rattle.book_laws.proofs.Effects.Session.{margin-at}
 use Rattle.demand.proofs.Cut.{more, trades-more, value-more, up-to-held, up-to-other, since-held, since-other}
-use Rattle.demand.proofs.Steps.{paidTo, Effect, settled-basis, effect, margins-written}
+use Rattle.demand.proofs.Steps.{paidTo, Effect, settled-basis, effect}
 use Rattle.demand.proofs.State.{Brings, paying, other, brings, Reached, opened-reached, reached-next}
 use Rattle.demand.proofs.Run.{run}
 

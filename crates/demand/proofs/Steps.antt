@@ -1,16 +1,15 @@
 -- What each accepted call does to positions, bases and the last session, given the trade or the session that it brings.
-use Rattle.numbers.proofs.Words.{ℕ, _≡_, refl, sym, ap, subst, _∙_, true, cond, List, [], _∷_, _++_, map, length, take, drop, length-map, take-append-seam, ℤ, pos, _+ℤ_, +ℤ-idl, +ℤ-idr, some, Every, entryℤ, gathered, totalℤ}
+use Rattle.numbers.proofs.Words.{ℕ, _≡_, refl, sym, ap, subst, _∙_, true, cond, List, [], _∷_, map, length, ℤ, pos, _+ℤ_, +ℤ-idl, +ℤ-idr, some, Every, entryℤ, gathered, totalℤ}
 use Rattle.rules.specs.declared.{book.Book.Book, units.Lots.Lots, units.Kopecks.Kopecks}
 use Rattle.rules.specs.Units.{worth}
-use Rattle.rules.specs.Book.{good, termsGood, placesGood, sectionsGood, noticesGood, tailsBlank, sectionAt, positionOf, basisOf, heldSections, valueAt}
-use Rattle.rules.specs.Calls.{newSection, sectionAnswer, tradeNumber, traded, tradeAnswer, sessionNumber, margins, sessionMargins, marginOf, handedOut, following, afterSession, sessionAnswer, conditionAnswer, afterNotice, noticeAnswer}
+use Rattle.rules.specs.Book.{good, sectionAt, positionOf, basisOf, valueAt}
+use Rattle.rules.specs.Calls.{newSection, sectionAnswer, tradeNumber, traded, tradeAnswer, sessionNumber, handedOut, following, afterSession, sessionAnswer, conditionAnswer, afterNotice, noticeAnswer}
 use Rattle.rules.specs.Expiry.Call.{expiryAnswer, afterExpiry}
 use Rattle.rules.specs.History.{Call, section, trade, session, condition, notice, expiry, answerOf, Trade, tradeOf, Session, sessionOf, anySession, net, entered}
 use Rattle.book_laws.proofs.Accepted as accepted
 use Rattle.book_laws.proofs.Answers.{written}
-use Rattle.book_laws.proofs.Margins.{margins-sum}
-use Rattle.book_laws.proofs.Held.{held-length}
-use Rattle.book_laws.proofs.Kept.{Section.section-kept, Trade.trade-kept, Session.session-kept, Condition.condition-kept, Notice.notice-kept}
+use Rattle.book_laws.proofs.Margins.{margins-sum, margins-written}
+use Rattle.book_laws.proofs.Kept.{expiry-kept, Section.section-kept, Trade.trade-kept, Session.session-kept, Condition.condition-kept, Notice.notice-kept}
 use Rattle.book_laws.proofs.Effects.Section.{section-position, section-basis, section-session}
 use Rattle.book_laws.proofs.Effects.Trade.{trade-position, trade-basis}
 use Rattle.book_laws.proofs.Effects.Session.{session-position, session-basis, session-rise}
@@ -39,14 +38,6 @@ unfolding net entered gathered some Every
 quiet b new book positions bases last =
     record { book = book; positions = λ i. positions i ∙ sym (+ℤ-idr _); bases = λ i. bases i ∙ sym (+ℤ-idr _); last = last; even = tt; settles = tt }
 
--- an accepted session writes the margins of the sections held (01, Session, 3; 01, Calls, 5)
-pub margins-written : (b : Book) (price : ℕ) (list : List ℤ) → sessionNumber b price (length list) ≡ 0 → take (b .held) (sessionMargins b price list) ≡ margins b price
-unfolding sessionMargins margins
-margins-written b price list e =
-    let book = accepted.session b price (length list) e .book in
-    let n : b .held ≡ length (margins b price) = sym (length-map (heldSections b) (marginOf (valueAt b price)) ∙ held-length b (book .section-places) (book .held)) in
-    ap (take (b .held)) (sym (written _ _ _ list refl e)) ∙ ap (λ (k : ℕ). take k (margins b price ++ drop (length (margins b price)) list)) n ∙ take-append-seam (margins b price) (drop (length (margins b price)) list)
-
 trade-effect : (b : Book) (buyer seller price lots : ℕ) → tradeNumber b buyer seller price lots ≡ 0 → Effect b (traded b buyer seller price lots) (tradeOf b (trade buyer seller price lots)) []
 unfolding tradeOf net entered gathered some Every traded
 trade-effect b buyer seller price lots e =
@@ -72,11 +63,6 @@ session-effect b price list e =
       even = (ap totalℤ (margins-written b price list e) ∙ margins-sum b price (length list) e, tt);
       settles = (λ i. session-basis b price book i ∙ ap (λ (z : ℤ). worth (record { 0 = z }) (valueAt b price) .0) (sym (session-position b price book i)), tt);
     }
-
--- the mark of an expiry is no part of the rules of the book (01, Expiry call, 3)
-expiry-kept : (b : Book) → good (afterExpiry b) ≡ good b
-unfolding good termsGood placesGood sectionsGood noticesGood tailsBlank afterExpiry
-expiry-kept b = refl
 
 handed : {number : ℕ} {b new : Book} {ts : List Trade} {ss : List Session} → number ≡ 0 → Effect b new ts ss → Effect b (handedOut number new b) ts ss
 handed {b = b} {ts = ts} {ss = ss} e = subst (λ (new : Book). Effect b new ts ss) (written _ _ _ b refl e)

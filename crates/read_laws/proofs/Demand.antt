@@ -8,7 +8,7 @@ use Rattle.numbers.proofs.Ranges.{sum-same}
 use Rattle.rules.specs.Units.{worth}
 use Rattle.rules.specs.Calls.{handedOut, newSection, withSection, sectionAnswer, traded, tradeAnswer, sessionAnswer, afterCondition, conditionAnswer, afterNotice, noticeAnswer, first}
 use Rattle.rules.specs.Expiry.Call.{Lists, afterExpiry, expiryRefusals, expiryAnswer, expiryLists, dayLast}
-use Rattle.rules.specs.File.{Lent, readWhole, fileAnswer}
+use Rattle.rules.specs.File.{Lent, readWhole, fileAnswer, fileLists}
 use Rattle.rules.specs.History.{Call, section, trade, session, condition, notice, expiry, answerOf, bookAfter, Accepted, accepted, Trade, tradeOf, trades, Session, sessionOf, sessions, Register, registerOf, registers, holds, anySession, upToLast, lastValue, net, entered, lotsWhere, Delivered, DemandThree, Holds}
 use Rattle.book_laws.proofs.Answers.{written, first-none}
 use Rattle.read_laws.specs.ReadCalls.{startOf, callsOf, AllAccepted, ReadByCalls, ReadIsCalls}
@@ -143,7 +143,7 @@ module _ (three : DemandThree) (file : List ℕ) (lent : Lent) (e : readWhole fi
       settled (callsOf file lent) start (r .all-accepted)
       (ap (λ (b : Book). b .trades) (sym (r .book) ∙ book-is) ∙ no-trade-since before (lent .lists) expiry-accepted)
 
-  holds-of : FileHolds file lent
+  holds-of : (let run = readWhole file lent in FileHolds file lent (fileAnswer run) (fileLists run lent))
   unfolding fileAnswer
   holds-of =
       let run = readWhole file lent in
