@@ -1,5 +1,5 @@
 -- The lines of a register: each is of sections held, at an elevator, and of no more lots than a notice has.
-use Rattle.numbers.proofs.Words.{ℕ, zero, suc, _-_, _≤_, _<_, min, arith, _≡_, refl, sym, ap, _∙_, Bool, true, false, cond, ⊎-elim, List, [], _∷_, _++_, map, flatMap, eqb, ltb, leb, length, getD, set, length-set, length-map, List·getD-map, lt-ltb, ltb-true, le-leb, leb-true, eqb-false, natAbs, _and_, every, listed, counted, entry, less}
+use Rattle.numbers.proofs.Words.{ℕ, zero, suc, _-_, _≤_, _<_, min, arith, _≡_, refl, sym, ap, _∙_, Bool, true, false, cond, ⊎-elim, List, [], _∷_, map, flatMap, eqb, ltb, leb, length, getD, set, length-set, length-map, List·getD-map, lt-ltb, ltb-true, le-leb, leb-true, eqb-false, natAbs, _and_, every, listed, counted, entry, less}
 use Rattle.rules.specs.declared.book.{Section.Section, Notice.Notice}
 use Rattle.numbers.proofs.Tests.{both, together, below-or-not}
 use Rattle.numbers.proofs.Lists.{every-at}
@@ -9,7 +9,7 @@ use Rattle.numbers.proofs.Entries.{entry-place, off-entry}
 use Rattle.numbers.proofs.Ranges.{listed-length, listed-under, less-at, getD-past}
 use Rattle.rules.specs.Book.{elevators, settlementCodes, sectionOf, noticeOf, blankNotice}
 use Rattle.rules.specs.Expiry.{lowerSectionCode, Outside.outside, Outside.inside, Drawing.drawn}
-use Rattle.rules.specs.Expiry.Passes.{Pair, Line, Pass, pairOf, withLots, sellersIn, elevatorsIn, offers, elevatorLots, fullestBuyer, fullestElevator, fullestPair, fullestNotice, stageOne, stageTwo, pairsOf, linesOf, insidePass, outsidePass}
+use Rattle.rules.specs.Expiry.Passes.{Pair, Line, Pass, pairOf, withLots, sellersIn, elevatorsIn, offers, fullestBuyer, fullestElevator, fullestPair, fullestNotice, stageOne, stageTwo, pairsOf, linesOf, insidePass, outsidePass}
 use Rattle.rules.specs.Expiry.Call.{delivered, passes, lines}
 use Rattle.method_laws.proofs.Elevators.{elevators-length}
 use Rattle.method_laws.proofs.Drawing.{drawn-within}
