@@ -13,3 +13,4 @@ pub mod Count
 pub mod Inside
 pub mod Delivery
 pub mod Columns
+pub mod Lines
