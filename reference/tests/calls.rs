@@ -3,10 +3,11 @@
 
 mod common;
 
-use common::{Lent, book_of, code, opened};
+use common::{Lent, book_of, opened};
 use wheat_delivery::reading::book::{Book, Notice, Section, SessionKind};
 use wheat_delivery::reading::calls::{Counts, open};
 use wheat_delivery::reading::refusal::Refusal;
+use wheat_delivery::trial::hand::code;
 
 fn numbers(faults: Vec<Refusal>) -> Vec<u8> {
     faults.into_iter().map(Refusal::number).collect()

@@ -2,7 +2,7 @@
 
 mod common;
 
-use common::{HAND_CONTRACT, entry, hand_events};
+use common::entry;
 use std::collections::BTreeSet;
 use wheat_delivery::reading::file::event::Event;
 use wheat_delivery::reading::file::{self, Reader, whole};
@@ -10,8 +10,9 @@ use wheat_delivery::reading::listing::Lists;
 use wheat_delivery::reading::refusal::Refusal;
 use wheat_delivery::reading::value::{factor, value};
 use wheat_delivery::trial::demand::{Call, Expiry, History, Outcome, run};
-use wheat_delivery::trial::generate;
 use wheat_delivery::trial::generate::lists::{self, FULL};
+use wheat_delivery::trial::generate::{self, Contract};
+use wheat_delivery::trial::hand::worked;
 
 /// The history of the list of calls of a seed, where it has one.
 fn history(seed: u64) -> Option<History> {
@@ -21,12 +22,12 @@ fn history(seed: u64) -> Option<History> {
 
 /// The history of the fifteen events checked by hand.
 fn hand_history() -> History {
-    let (lot, w, r) = HAND_CONTRACT;
+    let Contract { lot, w, r } = worked().contract;
     let call = |event| Call {
         event,
         lengths: FULL,
     };
-    let calls: Vec<Call> = hand_events().into_iter().map(call).collect();
+    let calls: Vec<Call> = worked().events.into_iter().map(call).collect();
     run(lot, w, r, &calls).unwrap().unwrap()
 }
 

@@ -1,10 +1,5 @@
 //! The event file both ways, and the read of a whole file.
 
-mod common;
-
-use common::{
-    HAND_CONTRACT, HAND_LISTING, condition, hand_events, notice, section, session, trade,
-};
 use wheat_delivery::reading::book::Book;
 use wheat_delivery::reading::file::event::{Event, decode, encode};
 use wheat_delivery::reading::file::whole::{Reading, read};
@@ -13,10 +8,10 @@ use wheat_delivery::reading::file::{
 };
 use wheat_delivery::reading::listing::{Lists, listing};
 use wheat_delivery::reading::refusal::Refusal;
+use wheat_delivery::trial::hand::{condition, notice, section, session, trade, worked};
 
 fn hand_file() -> Vec<u8> {
-    let (lot, w, r) = HAND_CONTRACT;
-    write(lot, w, r, &hand_events()).unwrap()
+    worked().file()
 }
 
 fn file_of(events: &[Event]) -> Vec<u8> {
@@ -222,7 +217,7 @@ fn an_earlier_events_number_comes_before_a_later_26() {
 
 #[test]
 fn an_event_after_an_accepted_expiry_is_5_at_its_place() {
-    let mut events = hand_events();
+    let mut events = worked().events;
     events.push(session(1));
     events.push(Event::Expiry);
     assert_eq!(number_and_place(&file_of(&events)), (5, 15));
@@ -242,7 +237,7 @@ fn a_last_expiry_that_is_refused_gives_its_own_number() {
 
 #[test]
 fn a_file_whose_last_event_is_no_expiry_is_27_at_n() {
-    let events = hand_events();
+    let events = worked().events;
     assert_eq!(number_and_place(&file_of(&events[..14])), (27, 14));
     assert_eq!(number_and_place(&file_of(&[session(1)])), (27, 1));
 }
@@ -257,7 +252,7 @@ fn the_shortest_accepted_file_prints_an_empty_register() {
 #[test]
 fn a_refused_file_prints_its_number_and_place() {
     assert_eq!(listing(&[]), "refused 25 0\n");
-    assert_eq!(listing(&file_of(&hand_events()[..14])), "refused 27 14\n");
+    assert_eq!(listing(&file_of(&worked().events[..14])), "refused 27 14\n");
 }
 
 /// Lists of these lengths for a read of the hand file.
@@ -291,7 +286,7 @@ fn a_read_judges_its_lists_at_the_expiry() {
     assert_eq!(answer(&file, [382, 4, 4, 3]), (24, 14));
     let evening = file_of(&[session(1), session(1), Event::Expiry]);
     assert_eq!(answer(&evening, [0, 0, 0, 0]), (22, 2));
-    let ended = file_of(&hand_events()[..14]);
+    let ended = file_of(&worked().events[..14]);
     assert_eq!(answer(&ended, [0, 0, 0, 0]), (27, 14));
 }
 
@@ -321,7 +316,7 @@ fn an_accepted_read_hands_out_the_expired_book_the_counts_and_the_lists() {
 
 #[test]
 fn a_read_refused_after_its_expiry_writes_nothing() {
-    let mut events = hand_events();
+    let mut events = worked().events;
     events.push(Event::Expiry);
     let mut lent = lists(382, 4, 4, 4);
     let before = lent.clone();
@@ -332,12 +327,12 @@ fn a_read_refused_after_its_expiry_writes_nothing() {
 
 #[test]
 fn margins_before_a_section_was_opened_count_as_none() {
-    let mut events = hand_events();
+    let mut events = worked().events;
     events.insert(8, session(1_530_000));
     events.insert(9, section(9, false, "D000001", 0));
     events.insert(10, session(1_520_000));
     let text = listing(&file_of(&events));
-    assert_eq!(text, format!("{HAND_LISTING}D000001 0 0 0\n"));
+    assert_eq!(text, format!("{}D000001 0 0 0\n", worked().prints));
 }
 
 #[test]

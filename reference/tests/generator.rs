@@ -2,8 +2,10 @@
 //! should.
 
 use wheat_delivery::reading::file::events_in;
+use wheat_delivery::reading::listing::listing;
+use wheat_delivery::trial::examples::examples;
 use wheat_delivery::trial::generate::lists::calls;
-use wheat_delivery::trial::generate::{Kind, file, kind};
+use wheat_delivery::trial::generate::{Kind, file, kind, sized};
 use wheat_delivery::trial::random::Random;
 use wheat_delivery::trial::reach::Reach;
 
@@ -82,4 +84,32 @@ fn the_generator_reaches_every_refusal_of_a_file_and_every_turn_of_expiry() {
         reach.add(kind(seed), &file(seed));
     }
     assert_eq!(reach.missing(), [""; 0], "{reach}");
+}
+
+#[test]
+fn a_sized_file_has_its_events_and_sections_and_as_many_lines_as_may_be() {
+    for sections in [16, 32, 64, 128] {
+        let (sellers, notices) = (sections / 16, 2 * sections);
+        let least = 2 * sections + notices + (sections - sellers) + 2;
+        for events in [least, 950, 951, 3_800] {
+            let bytes = sized(sections, events).unwrap();
+            assert_eq!(events_in(&bytes), Ok(events));
+            let listing = listing(&bytes);
+            let lines = sections - sellers + notices - 1;
+            assert!(listing.starts_with(&format!("register {lines}\n")));
+            assert_eq!(listing.lines().count(), 1 + lines + sections);
+        }
+        assert_eq!(sized(sections, least - 1), None);
+    }
+}
+
+#[test]
+fn the_examples_are_the_files_of_their_folder_and_print_what_is_said_of_them() {
+    let folder = concat!(env!("CARGO_MANIFEST_DIR"), "/../examples/");
+    let first = ["register 3", "refused 20 14", "register 375"];
+    for ((name, bytes), first) in examples().into_iter().zip(first) {
+        assert_eq!(listing(&bytes).lines().next(), Some(first));
+        let kept = std::fs::read(format!("{folder}{name}")).unwrap();
+        assert!(kept == bytes, "{name} is another file");
+    }
 }

@@ -2,14 +2,14 @@
 
 mod common;
 
-use common::{HAND_CONTRACT, HAND_LISTING, book_of, expire, hand_events, opened};
+use common::{book_of, expire, opened};
 use wheat_delivery::reading::calls::{Counts, open};
 use wheat_delivery::reading::expiry::passes::stage_one;
 use wheat_delivery::reading::expiry::{Buyer, Offer, settle};
-use wheat_delivery::reading::file::write;
 use wheat_delivery::reading::listing::listing;
 use wheat_delivery::reading::refusal::Refusal;
 use wheat_delivery::reading::value::{factor, value};
+use wheat_delivery::trial::hand::{code, unstarred, worked};
 
 #[test]
 fn w_1_r_3_has_factor_33333_and_its_top_price_is_worth_3333300() {
@@ -124,12 +124,17 @@ fn stage_one_pairs_five_at_the_first_three_at_the_second_one_at_the_first() {
 
 #[test]
 fn the_fifteen_events_print_their_listing() {
-    let (lot, w, r) = HAND_CONTRACT;
-    let events = hand_events();
-    assert_eq!(events.len(), 15);
-    let file = write(lot, w, r, &events).unwrap();
+    assert_eq!(worked().events.len(), 15);
+    let file = worked().file();
     assert_eq!(file.len(), 271);
-    assert_eq!(listing(&file), HAND_LISTING);
+    assert_eq!(listing(&file), worked().prints);
+}
+
+#[test]
+fn every_claim_without_a_star_holds_of_its_file() {
+    for case in unstarred() {
+        assert_eq!(listing(&case.file()), case.prints, "{}", case.claim);
+    }
 }
 
 #[test]
@@ -137,7 +142,7 @@ fn trap_both_values_are_rounded_and_not_the_price_change() {
     let (answer, mut book) = open(1, 1, 100_000);
     assert_eq!(answer, Ok(()));
     for text in ["A000001", "A000002"] {
-        book.section(0, true, common::code(text), 0).unwrap();
+        book.section(0, true, code(text), 0).unwrap();
     }
     book.trade(0, 1, 100_000, 1).unwrap();
     let mut margins = [0; 2];

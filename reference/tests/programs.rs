@@ -1,17 +1,16 @@
 //! The programs: what they print and how they end.
 
-mod common;
-
-use common::{HAND_CONTRACT, HAND_LISTING, hand_events};
 use std::io::Write;
 use std::path::PathBuf;
 use std::process::{Command, Output, Stdio};
-use wheat_delivery::reading::file::write;
 use wheat_delivery::reading::listing::listing;
+use wheat_delivery::trial::examples::examples;
 use wheat_delivery::trial::generate;
+use wheat_delivery::trial::hand::worked;
 
 const LISTING: &str = env!("CARGO_BIN_EXE_listing");
 const COMPARE: &str = env!("CARGO_BIN_EXE_compare");
+const CASES: &str = env!("CARGO_BIN_EXE_cases");
 const GENERATE: &str = env!("CARGO_BIN_EXE_generate");
 const CHECK: &str = env!("CARGO_BIN_EXE_check");
 
@@ -44,9 +43,8 @@ fn compare(program: &str, count: &str, seed: &str, folder: &PathBuf) -> Output {
 
 #[test]
 fn the_program_prints_the_listing_of_the_file_on_standard_input() {
-    let (lot, w, r) = HAND_CONTRACT;
-    let output = list(&write(lot, w, r, &hand_events()).unwrap());
-    assert_eq!(output.stdout, HAND_LISTING.as_bytes());
+    let output = list(&worked().file());
+    assert_eq!(output.stdout, worked().prints.as_bytes());
     assert!(output.status.success() && output.stderr.is_empty());
 }
 
@@ -122,6 +120,46 @@ fn a_comparison_with_a_bad_count_or_seed_fails() {
         );
     }
     assert!(!compare(LISTING, "1", "x", &folder).status.success());
+}
+
+#[test]
+fn the_claims_without_a_star_hold_of_this_program_and_not_of_another() {
+    let cases = |program: &str, name: &str| {
+        let arguments = [program.into(), folder(name).into_os_string()];
+        Command::new(CASES).args(arguments).output().unwrap()
+    };
+    let output = cases(LISTING, "holds");
+    assert_eq!(output.stdout, b"7 of 7 claims hold\n");
+    assert!(output.status.success());
+    let output = cases("/bin/cat", "does-not");
+    let text = String::from_utf8(output.stdout).unwrap();
+    let first = "0 of 7 claims hold\ndoes not hold: W 100, R 1 opens: row 1: ";
+    assert!(text.starts_with(first), "{text}");
+    assert!(!output.status.success());
+    assert!(!cases("./no-such-program", "missing").status.success());
+}
+
+#[test]
+fn the_generator_writes_the_examples_and_files_of_a_size() {
+    let folder = folder("sizes");
+    std::fs::create_dir_all(&folder).unwrap();
+    let generate = |arguments: &[&str]| {
+        let mut command = Command::new(GENERATE);
+        command.args(arguments).current_dir(&folder);
+        command.output().unwrap().status.success()
+    };
+    assert!(generate(&["--examples", "."]));
+    for (name, bytes) in examples() {
+        assert_eq!(std::fs::read(folder.join(name)).unwrap(), bytes);
+    }
+    assert!(generate(&["--sized", "16", "475", "file"]));
+    assert_eq!(
+        std::fs::read(folder.join("file")).unwrap(),
+        generate::sized(16, 475).unwrap()
+    );
+    assert!(!generate(&["--sized", "15", "475", "file"]));
+    assert!(!generate(&["--sized", "128", "475", "file"]));
+    assert!(!generate(&["--sized", "16", "3801", "file"]));
 }
 
 #[test]

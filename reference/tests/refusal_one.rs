@@ -2,10 +2,11 @@
 
 mod common;
 
-use common::{Lent, book_of, code};
+use common::{Lent, book_of};
 use wheat_delivery::reading::book::{Book, NOTICES, Notice, SECTIONS, Section, SessionKind};
 use wheat_delivery::reading::calls::open;
 use wheat_delivery::reading::refusal::Refusal;
+use wheat_delivery::trial::hand::code;
 
 /// A good book with two sections, two notices, a session and a trade since.
 fn good() -> Book {

@@ -1,12 +1,12 @@
 -- The answer of an expiry, and what an accepted one says of its lists.
-use Rattle.numbers.proofs.Words.{ℕ, arith, _≡_, sym, length, ltb-false, ne-eqb, some}
+use Rattle.numbers.proofs.Words.{ℕ, arith, _≡_, sym, _∙_, length, ltb-false, ne-eqb, some}
 use Rattle.numbers.specs.Lists.{shorter}
 use Rattle.numbers.proofs.Tests.{or-left, or-right}
 use Rattle.rules.specs.declared.book.{Book.Book}
 use Rattle.rules.specs.Calls.{first, handedOut}
-use Rattle.rules.specs.Expiry.Call.{Lists, afterExpiry, expiryRefusals, expiryAnswer}
-use Rattle.book_laws.proofs.Answers.{first-none}
-use Rattle.call_expiry.specs.Lent.{pairsFor, linesFor, Room}
+use Rattle.rules.specs.Expiry.Call.{Lists, afterExpiry, expiryRefusals, expiryWritten, expiryLists, expiryAnswer}
+use Rattle.book_laws.proofs.Answers.{kept, written, first-none}
+use Rattle.method_delivery.specs.Lent.{pairsFor, linesFor, Room}
 
 module _ (b : Book) (ls : Lists) where
   -- no list is too short for an accepted expiry (01, Expiry call, 1)
@@ -29,13 +29,14 @@ module _ (b : Book) (ls : Lists) where
         terminated-room = ltb-false _ _ (or-left (shorter (b .held) (ls .terminated)) _ last);
       }
 
-  -- a refused one answers its number, no pairs, no lines and the same book (01, Book, 7)
-  pub expiry-refused : (n : ℕ) → n ≡ first (expiryRefusals b ls) → (n ≡ 0 → ⊥) → record { number = n; pairs = 0; lines = 0; book = b } ≡ expiryAnswer b ls
-  unfolding expiryAnswer
-  expiry-refused n e ne = rw (sym e, ne-eqb n 0 ne, handedOut)
+  -- a refused one answers its number, no pairs, no lines and the same book, and its lists are as they were (01, Book, 7)
+  pub expiry-refused : (n : ℕ) → n ≡ first (expiryRefusals b ls) → (n ≡ 0 → ⊥) → (record { number = n; pairs = 0; lines = 0; book = b } ≡ expiryAnswer b ls) × (ls ≡ expiryLists b ls)
+  unfolding expiryAnswer expiryLists
+  expiry-refused n e ne = (rw (sym e, ne-eqb n 0 ne, handedOut), kept n _ _ _ e ne)
 
-  -- an accepted one 0, its counts and the book that has expired (01, Expiry, 7)
-  pub expiry-accepted : (n pairs lines : ℕ) (book : Book) → n ≡ first (expiryRefusals b ls) → n ≡ 0 → pairs ≡ length (pairsFor b) → lines ≡ length (linesFor b) → book ≡ afterExpiry b
-      → record { number = n; pairs = pairs; lines = lines; book = book } ≡ expiryAnswer b ls
-  unfolding expiryAnswer
-  expiry-accepted n pairs lines book e z p l h = rw (sym e, z, p, l, h)
+  -- an accepted one 0, its counts and the book that has expired, and its lists are written (01, Expiry, 7; 01, Expiry call, 2)
+  pub expiry-accepted : (n pairs lines : ℕ) (book : Book) (after : Lists) → n ≡ first (expiryRefusals b ls) → n ≡ 0
+      → (pairs ≡ length (pairsFor b)) × (lines ≡ length (linesFor b)) → book ≡ afterExpiry b → after ≡ expiryWritten b ls
+      → (record { number = n; pairs = pairs; lines = lines; book = book } ≡ expiryAnswer b ls) × (after ≡ expiryLists b ls)
+  unfolding expiryAnswer expiryLists
+  expiry-accepted n pairs lines book after e z counts h w = (rw (sym e, z, counts .0, counts .1, h), w ∙ written n _ _ _ e z)

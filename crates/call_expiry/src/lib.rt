@@ -3,7 +3,7 @@ ghost use Rattle.rules.specs.Words.{_≡_, true, _||_, ltb, length};
 ghost use Rattle.rules.specs.Book.{good};
 ghost use Rattle.rules.specs.Calls.{first};
 ghost use Rattle.rules.specs.Expiry.Call;
-ghost use Rattle.call_expiry.specs.Lent.{lists};
+ghost use Rattle.method_delivery.specs.Lent.{lists};
 use rules::book::Book;
 use rules::book::ExpiryAnswer;
 use rules::book::LastSession;
@@ -14,9 +14,6 @@ use rules::limits::NOT_AFTER_DAY;
 use rules::limits::REGISTER_PLACES;
 use rules::limits::REGISTER_SHORT;
 use rules::limits::SECTION_LISTS_SHORT;
-
-pub mod deliver;
-mod written;
 
 // Whether the last session was a day session (01, Expiry call, 1).
 fn day_last(last: LastSession) -> bool
@@ -57,11 +54,13 @@ pub fn refusal(
     if !day_last(last) | (b.trades != 0) {
         return NOT_AFTER_DAY;
     }
-    if register_short(buyers.len(), elevators.len(), sellers.len(), lots.len()) {
+    let held = b.held;
+    let register = register_short(buyers.len(), elevators.len(), sellers.len(), lots.len());
+    let sections = (delivered.len() < held) | (terminated.len() < held);
+    if register {
         return REGISTER_SHORT;
     }
-    let held = b.held;
-    if (delivered.len() < held) | (terminated.len() < held) {
+    if sections {
         return SECTION_LISTS_SHORT;
     }
     ACCEPTED
@@ -107,7 +106,15 @@ pub fn expiry(
             book: b,
         };
     }
-    let counts = deliver::deliver(b, buyers, elevators, sellers, lots, delivered, terminated);
+    let counts = method_delivery::deliver(
+        b,
+        buyers,
+        elevators,
+        sellers,
+        lots,
+        delivered,
+        terminated,
+    );
     let book = expired(b);
     ExpiryAnswer {
         number,

@@ -1,9 +1,9 @@
 -- What a session pays into a list: the margins themselves, or margins on top of what stood there.
-use Rattle.numbers.proofs.Words.{ℕ, _+_, _-_, _≤_, _<_, arith, _≡_, sym, ap, _∙_, ⊎-elim, true, false, List, [], length, getD, drop, List·getD-eq-default, getD-append-add, getD-drop, ℤ, pos, _+ℤ_, _-ℤ_, +ℤ-idl, +ℤ-idr, natAbs, SFits, w64, listed, entryℤ, over}
+use Rattle.numbers.proofs.Words.{ℕ, _≤_, _<_, arith, _≡_, sym, ap, _∙_, ⊎-elim, true, false, List, [], List·getD-eq-default, ℤ, pos, _+ℤ_, _-ℤ_, +ℤ-idl, +ℤ-idr, natAbs, SFits, w64, listed, entryℤ, over}
 use Rattle.rules.specs.declared.book.{Book.Book}
 use Rattle.numbers.proofs.Tests.{below-or-not}
 use Rattle.numbers.proofs.Whole.{difference-within, sfits-size}
-use Rattle.numbers.proofs.Lists.{over-at}
+use Rattle.numbers.proofs.Lists.{over-at, over-past}
 use Rattle.numbers.proofs.Ranges.{listed-same, listed-front, listed-length, listed-at}
 use Rattle.value.proofs.Laws.{value-within, worth-within}
 use Rattle.rules.specs.Units.{worth}
@@ -14,14 +14,6 @@ use Rattle.book_laws.proofs.Held.{held-good, held-basis}
 use Rattle.book_laws.proofs.Margins.{margins-length}
 use Rattle.book_laws.proofs.Effects.{Session.margin-at}
 use Rattle.call_session.specs.Paid.{paidTo, paidInto}
-
-over-past : {A : Type 0} (written list : List A) (i : ℕ) (d : A) → length written ≤ i → getD (over written list) i d ≡ getD list i d
-over-past written list i d h =
-    let past : i ≡ length written + (i - length written) = omega (arith, h) in
-    ap (λ (j : ℕ). getD (over written list) j d) past
-    ∙ getD-append-add written (drop (length written) list) (i - length written) d
-    ∙ getD-drop (length written) list (i - length written) d
-    ∙ ap (λ (j : ℕ). getD list j d) (sym past)
 
 module _ {b : Book} {price room : ℕ} (s : NewSession b price room) where
   -- a margin alone fits 64 bits (01, Session, 3)

@@ -1,8 +1,11 @@
-// The worked example by the public calls, up to its notices (01, Checked, 6): a row for each call with its answer, and after the
-// day session the margins and their sum. Then a call that is refused, and one on the book of noughts.
+// The worked example by the public calls, from opening to expiry (01, Checked, 6): a row for each call with its answer; after the day session the margins
+// and their sum; after the expiry its counts, the lines, what each section delivers and what it has terminated, and a place of the register past the
+// last line. Then calls that are refused, one of them on the book of noughts.
 use libc::STDOUT_FILENO;
 use rules::book::Answer;
 use rules::book::Book;
+use rules::book::ExpiryAnswer;
+use rules::limits::REGISTER_PLACES;
 use value::signed;
 
 fn row(name: &[u8], number: u8) {
@@ -88,10 +91,80 @@ fn with_notices(b: Book) -> Book {
     answered(b"notice", call_notice::file_notice(five, 2, 1, 4))
 }
 
+fn numbers(name: &[u8], first: u64, second: u64, third: u64, fourth: u64) {
+    io::write_all(STDOUT_FILENO, name);
+    field(first);
+    field(second);
+    field(third);
+    field(fourth);
+    io::write_all(STDOUT_FILENO, b"\n");
+}
+
+fn field(number: u64) {
+    io::write_all(STDOUT_FILENO, b" ");
+    io::print_decimal(STDOUT_FILENO, number);
+}
+
+fn sections(name: &[u8], lots: [u32; 4]) {
+    numbers(
+        name,
+        lots[0] as u64,
+        lots[1] as u64,
+        lots[2] as u64,
+        lots[3] as u64,
+    );
+}
+
+fn line(buyer: u8, elevator: u8, seller: u8, lots: u32) {
+    numbers(
+        b"line",
+        buyer as u64,
+        elevator as u64,
+        seller as u64,
+        lots as u64,
+    );
+}
+
+fn counts(a: ExpiryAnswer) -> Book {
+    row(b"expiry", a.number);
+    io::write_all(STDOUT_FILENO, b"pairs and lines");
+    field(a.pairs as u64);
+    field(a.lines as u64);
+    io::write_all(STDOUT_FILENO, b"\n");
+    a.book
+}
+
+fn with_expiry(b: Book) -> Book {
+    let mut buyers = [99u8; REGISTER_PLACES];
+    let mut elevators = [99u8; REGISTER_PLACES];
+    let mut sellers = [99u8; REGISTER_PLACES];
+    let mut lots = [99u32; REGISTER_PLACES];
+    let mut delivered = [99u32; 4];
+    let mut terminated = [99u32; 4];
+    let expired = counts(call_expiry::expiry(
+        b,
+        &mut buyers,
+        &mut elevators,
+        &mut sellers,
+        &mut lots,
+        &mut delivered,
+        &mut terminated,
+    ));
+    line(buyers[0], elevators[0], sellers[0], lots[0]);
+    line(buyers[1], elevators[1], sellers[1], lots[1]);
+    line(buyers[2], elevators[2], sellers[2], lots[2]);
+    line(buyers[3], elevators[3], sellers[3], lots[3]);
+    sections(b"delivered", delivered);
+    sections(b"terminated", terminated);
+    expired
+}
+
 fn main() {
     let opened = answered(b"opening", call_opening::open(25, 2_500, 100));
     let held = with_notices(with_session(with_trades(with_sections(opened))));
     answered(b"notice", call_notice::file_notice(held, 2, 1, 1));
+    let expired = with_expiry(held);
+    with_expiry(expired);
     let refused = answered(b"opening", call_opening::open(25, 1, 200_001));
     answered(
         b"condition",

@@ -6,7 +6,7 @@ use rules::book::Book;
 mod codes;
 mod digits;
 mod rows;
-mod text;
+pub mod text;
 
 // The listing of an expired book, its register and its lists: how many lines, a row for each line, a row for each section. It answers how
 // many bytes were written; later ones remain (01, Program, 1 and 3; 01, Forms, 7; 01, Bound, a).

@@ -32,13 +32,24 @@ pub fn code(codes: &[u8], i: usize, end: u8, out: &mut [u8], at: usize) -> usize
     word(&codes[from..from + 7], end, out, at)
 }
 
+// A number in base ten, with no byte that ends it.
+pub fn decimal_digits(n: u64, out: &mut [u8], at: usize) -> usize
+    requires { ⌜ at + length (decimal n) ≤ length (now out) ⌝ }
+    ensures { λ r. ⌜ Laid (now (out .entry)) at (decimal n) (now (out .exit)) r ⌝ }
+{
+    let mut digits = [0; 20];
+    let from = digits::laid(n, &mut digits);
+    bytes::put(out, at, &digits[from..]);
+    at + (20 - from)
+}
+
 pub fn number(n: u64, end: u8, out: &mut [u8], at: usize) -> usize
     requires { ⌜ at + length (decimal n) < length (now out) ⌝ }
     ensures { λ r. ⌜ Laid (now (out .entry)) at (field (decimal n) end) (now (out .exit)) r ⌝ }
 {
-    let mut digits = [0; 20];
-    let from = digits::laid(n, &mut digits);
-    word(&digits[from..], end, out, at)
+    let next = decimal_digits(n, out, at);
+    out[next] = end;
+    next + 1
 }
 
 // With a minus sign where it is below 0.

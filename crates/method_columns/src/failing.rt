@@ -33,17 +33,18 @@ fn failed(s: Section, noticed: u64) -> u64
 {
     let position = s.position.0;
     let own = signed::size(position);
+    let sound = 0;
     if !s.met {
         return own;
     }
     if 0 <= position {
-        return 0;
+        return sound;
     }
     if !s.seller {
         return own;
     }
     if noticed == own {
-        return 0;
+        return sound;
     }
     own
 }

@@ -1,5 +1,5 @@
 -- The passes by columns are those of the sections and the notices that have these columns; the lines of some of them are no more than those of all.
-use Rattle.numbers.proofs.Words.{ℕ, zero, suc, _+_, _-_, _*_, _≤_, _<_, add-zero, arith, _≡_, refl, sym, ap, ap₂, subst, _∙_, Bool, cond, List, [], _∷_, _++_, map, flatMap, length, take, drop, length-append, length-take-le, take-at, eqb, ℤ, _&&_, add-one, counted, listed, entry, entryℤ, less}
+use Rattle.numbers.proofs.Words.{ℕ, zero, suc, _+_, _-_, _*_, _≤_, _<_, add-zero, arith, _≡_, refl, sym, ap, ap₂, subst, _∙_, Bool, cond, List, [], _∷_, _++_, map, flatMap, length, take, length-append, eqb, ℤ, _&&_, add-one, counted, listed, entry, entryℤ, less}
 use Rattle.numbers.proofs.Lists.{flatMap-last}
 use Rattle.numbers.proofs.Ranges.{listed-length, listed-at, listed-same, listed-more, listed-under, less-at}
 use Rattle.numbers.proofs.Under.{under-two}
@@ -126,19 +126,6 @@ module _ {ss : List Section} {ns : List Notice} {codes : List ℕ} {positions : 
       → flatMap (linesBy keys sellers stands) (inCodes codes sellers buyers inside) ++ linesBy keys sellers stands (outsideOf positions far beyond) ≡ lines ss ns
   unfolding lines
   all-lines known = formed (linesBy keys sellers stands) (linesOf ss ns) (λ p long. pass-lines columns (d .filed) p long known)
-
--- the front of a local list, lent and filled by a call
-pub record Front (n : ℕ) (was front : List ℕ) : Type 0 where
-  pub full : length front ≡ n
-  pub is : take n (front ++ drop n was) ≡ front
-  pub fits : n ≤ length (front ++ drop n was)
-  pub long : length (take n (front ++ drop n was)) ≡ n
-
-pub front-of : (n : ℕ) (was front : List ℕ) → n ≤ length was → length front ≡ length (take n was) → Front n was front
-front-of n was front few kept =
-    let full : length front ≡ n = kept ∙ length-take-le n was few in
-    let is = take-at front (drop n was) n full in
-    record { full = full; is = is; fits = omega (arith, length-append front (drop n was), full); long = ap length is ∙ full }
 
 -- of what is drawn, that under a test
 pub sold-less : {sellers stands drawn : List ℕ} {sections : ℕ} → Sold sellers stands drawn sections → (test : ℕ → Bool) → Sold sellers stands (listed (length drawn) (λ (k : ℕ). cond (test k) (entry drawn k) 0)) sections

@@ -1,5 +1,5 @@
 -- A list that is filled by number: entry i becomes f i, one turn after the other.
-use Rattle.numbers.proofs.Words.{ℕ, suc, _+_, _≤_, _<_, add-one, arith, _≡_, refl, ap, ap₂, _∙_, List, _++_, append-assoc, append-nil, length, getD, set, drop, drop-of-length-le, length-append, length-drop, drop-cons, set-at, getD-at, counted, listed}
+use Rattle.numbers.proofs.Words.{ℕ, suc, _+_, _≤_, _<_, add-one, arith, _≡_, refl, sym, ap, ap₂, _∙_, List, _++_, append-assoc, append-nil, length, getD, set, drop, drop-of-length-le, length-append, length-drop, drop-cons, set-at, getD-at, counted, listed, over}
 use Rattle.numbers.proofs.Ranges.{listed-more, listed-length}
 
 -- after i turns
@@ -51,3 +51,7 @@ module _ {A : Type 0} {f : ℕ → A} {was now : List A} {i : ℕ} (filled : Fil
 
   pub filled-end : length was ≤ i → (n : ℕ) → length was ≡ n → now ≡ listed n f
   filled-end past n e = filled .entries ∙ partly-end f was i past ∙ ap (λ (m : ℕ). listed m f) (omega (arith, past, e, filled .within))
+
+  -- and where only its first entries are filled
+  pub filled-over : (n : ℕ) → i ≡ n → now ≡ over (listed n f) was
+  filled-over n e = filled .entries ∙ ap₂ (λ (m k : ℕ). listed m f ++ drop k was) e (e ∙ sym (listed-length n f))

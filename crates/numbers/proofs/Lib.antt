@@ -16,3 +16,4 @@ pub mod Orders
 pub mod Filled
 pub mod Put
 pub mod Tally
+pub mod Front

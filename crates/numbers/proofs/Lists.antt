@@ -1,6 +1,6 @@
 -- Tests over the entries of a list, one entry after the other, as a loop over the list goes: what a test says of
 -- `drop i xs` and of `drop (i + 1) xs`, where x is entry i.
-use Rattle.numbers.proofs.Words.{ℕ, zero, suc, _+_, _≤_, _<_, not-suc-le-zero, le-of-suc-le-suc, le-of-lt, add-one, arith, _≡_, refl, sym, ap, _∙_, Bool, true, false, not, List, [], _∷_, _++_, map, map-append, append-assoc, append-nil, flatMap, length, getD, set, take, drop, drop-of-length-le, length-map, length-append, length-drop, List·getD-append, drop-cons, take-suc, set-at, length-take-le, getD-take, not-true, every, some, apart, over}
+use Rattle.numbers.proofs.Words.{ℕ, zero, suc, _+_, _-_, _≤_, _<_, not-suc-le-zero, le-of-suc-le-suc, le-of-lt, add-one, arith, _≡_, refl, sym, ap, _∙_, Bool, true, false, not, List, [], _∷_, _++_, map, map-append, append-assoc, append-nil, flatMap, length, getD, set, take, drop, drop-of-length-le, length-map, length-append, length-drop, List·getD-append, getD-append-add, getD-drop, drop-cons, take-suc, set-at, length-take-le, getD-take, not-true, every, some, apart, over}
 use Rattle.numbers.proofs.Tests.{and-left, and-right, or-left, or-right}
 
 -- xs has x at place i
@@ -88,9 +88,17 @@ apart-at alike (x ∷ xs) d i zero e l h = absurd (not-suc-le-zero l)
 apart-at alike (x ∷ xs) d zero (suc j) e l h = none-at (alike x) xs j d (not-true (some (alike x) xs) (and-left (not (some (alike x) xs)) (apart alike xs) e)) (le-of-suc-le-suc h)
 apart-at alike (x ∷ xs) d (suc i) (suc j) e l h = apart-at alike xs d i j (and-right (not (some (alike x) xs)) (apart alike xs) e) (le-of-suc-le-suc l) (le-of-suc-le-suc h)
 
--- entries written over a list's first ones are read there
+-- entries written over a list's first ones are read there, and past them those that were
 pub over-at : {A : Type 0} (written list : List A) (i : ℕ) (d : A) → i < length written → getD (over written list) i d ≡ getD written i d
 over-at written list i d h = List·getD-append written (drop (length written) list) d i h
+
+pub over-past : {A : Type 0} (written list : List A) (i : ℕ) (d : A) → length written ≤ i → getD (over written list) i d ≡ getD list i d
+over-past written list i d h =
+    let past : i ≡ length written + (i - length written) = omega (arith, h) in
+    ap (λ (j : ℕ). getD (over written list) j d) past
+    ∙ getD-append-add written (drop (length written) list) (i - length written) d
+    ∙ getD-drop (length written) list (i - length written) d
+    ∙ ap (λ (j : ℕ). getD list j d) (sym past)
 
 -- a list of no entries
 pub empty : {A : Type 0} (xs : List A) → length xs ≡ 0 → xs ≡ []

@@ -1,19 +1,31 @@
-//! Writes generated files into a folder, or reports what they reach.
+//! Writes generated files into a folder, reports what they reach, writes the
+//! files of `examples`, or one of a size that is asked for.
 //!
 //! generate COUNT SEED FOLDER | generate --report COUNT SEED
+//! generate --examples FOLDER | generate --sized SECTIONS EVENTS FILE
 
 use std::path::Path;
 use std::process::ExitCode;
-use wheat_delivery::trial::generate::{file, kind};
+use wheat_delivery::reading::file::EVENTS;
+use wheat_delivery::trial::examples::examples;
+use wheat_delivery::trial::generate::{file, kind, sized};
 use wheat_delivery::trial::reach::Reach;
+
+const USAGE: &str = "\
+generate COUNT SEED FOLDER
+generate --report COUNT SEED
+generate --examples FOLDER
+generate --sized SECTIONS EVENTS FILE";
 
 fn main() -> ExitCode {
     let arguments: Vec<String> = std::env::args().skip(1).collect();
     let arguments: Vec<&str> = arguments.iter().map(String::as_str).collect();
     let done = match arguments.as_slice() {
         ["--report", count, seed] => report(count, seed),
+        ["--examples", folder] => write_examples(Path::new(folder)),
+        ["--sized", sections, events, path] => write_sized(sections, events, path),
         [count, seed, folder] => write(count, seed, Path::new(folder)),
-        _ => Err("generate COUNT SEED FOLDER | generate --report COUNT SEED".to_string()),
+        _ => Err(USAGE.to_string()),
     };
     match done {
         Ok(()) => ExitCode::SUCCESS,
@@ -50,4 +62,26 @@ fn write(count: &str, seed: &str, folder: &Path) -> Result<(), String> {
         std::fs::write(path, file(seed)).map_err(|error| error.to_string())?;
     }
     Ok(())
+}
+
+fn write_examples(folder: &Path) -> Result<(), String> {
+    for (name, bytes) in examples() {
+        std::fs::write(folder.join(name), bytes).map_err(|error| error.to_string())?;
+    }
+    Ok(())
+}
+
+fn write_sized(sections: &str, events: &str, path: &str) -> Result<(), String> {
+    let sections: usize = sections
+        .parse()
+        .ok()
+        .filter(|n| (16..=128).contains(n) && n % 16 == 0)
+        .ok_or("SECTIONS is a multiple of 16, from 16 to 128")?;
+    let events: usize = events
+        .parse()
+        .ok()
+        .filter(|&n| n <= EVENTS)
+        .ok_or("EVENTS is at most 3800")?;
+    let bytes = sized(sections, events).ok_or("too few events for so many sections")?;
+    std::fs::write(path, bytes).map_err(|error| error.to_string())
 }

@@ -1,17 +1,12 @@
 //! Books and files that several tests use.
 #![allow(dead_code)]
 
-use wheat_delivery::reading::book::{Book, Notice, Section, SectionCode, SessionKind};
+use wheat_delivery::reading::book::{Book, Notice, Section, SessionKind};
 use wheat_delivery::reading::calls::{Counts, ExpiryLists, open};
-use wheat_delivery::reading::file::event::Event;
 use wheat_delivery::reading::listing::Lists;
 use wheat_delivery::reading::refusal::Refusal;
 use wheat_delivery::trial::demand::Entry;
-
-/// A section code from text.
-pub fn code(text: &str) -> SectionCode {
-    SectionCode(text.as_bytes().try_into().expect("seven bytes"))
-}
+use wheat_delivery::trial::hand::code;
 
 /// A book with K 100,000, so that the value of a price is the price.
 pub fn opened() -> Book {
@@ -148,73 +143,3 @@ pub fn entry(buyer: u8, elevator: u8, seller: u8, lots: u32) -> Entry {
         lots,
     }
 }
-
-pub fn section(settlement_code: u8, seller: bool, text: &str, participant: u32) -> Event {
-    Event::Section {
-        settlement_code,
-        seller,
-        code: code(text),
-        participant,
-    }
-}
-
-pub fn trade(buyer: u8, seller: u8, price: u32, lots: u32) -> Event {
-    Event::Trade {
-        buyer,
-        seller,
-        price,
-        lots,
-    }
-}
-
-pub fn session(price: u32) -> Event {
-    Event::Session { price }
-}
-
-pub fn condition(section: u8, met: bool) -> Event {
-    Event::Condition { section, met }
-}
-
-pub fn notice(section: u8, elevator: u8, lots: u32) -> Event {
-    Event::Notice {
-        section,
-        elevator,
-        lots,
-    }
-}
-
-/// The contract of the last case of "Checked by hand": lot, W, R.
-pub const HAND_CONTRACT: (u32, u32, u32) = (25, 2_500, 100);
-
-/// The fifteen events of that case.
-pub fn hand_events() -> Vec<Event> {
-    vec![
-        section(1, false, "A000001", 1),
-        section(1, true, "A000002", 2),
-        section(2, true, "B000001", 3),
-        section(3, false, "C000001", 4),
-        trade(0, 1, 1_500_000, 2),
-        trade(0, 2, 1_500_000, 3),
-        trade(3, 2, 1_510_000, 3),
-        session(1_520_000),
-        condition(0, true),
-        condition(1, true),
-        condition(2, true),
-        notice(1, 0, 2),
-        notice(2, 4, 2),
-        notice(2, 1, 4),
-        Event::Expiry,
-    ]
-}
-
-/// What the program prints for that case.
-pub const HAND_LISTING: &str = "\
-register 3
-A000001 0 A000002 2 50
-A000001 4 B000001 2 50
-A000001 1 B000001 1 25
-A000001 5 0 2500000
-A000002 2 0 -1000000
-B000001 3 3 -2250000
-C000001 0 3 750000
-";

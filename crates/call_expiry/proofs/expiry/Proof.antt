@@ -1,7 +1,7 @@
 use Rattle.numbers.proofs.Words.{arith, sym, _∙_, needs}
 use Rattle.numbers.proofs.Tests.{failed, passed}
-use Rattle.rules.specs.Expiry.Call.{expiryRefusals, expiryLists}
-use Rattle.book_laws.proofs.Answers.{kept, written, bad-book}
+use Rattle.rules.specs.Expiry.Call.{expiryRefusals}
+use Rattle.book_laws.proofs.Answers.{bad-book}
 use Rattle.call_expiry.proofs.Answers.{room-of, expiry-refused, expiry-accepted}
 use Rattle.call_expiry.proofs.expiry.Statement.{statement}
 use Rattle.call_expiry.proofs.expiry.Tie as tie
@@ -10,10 +10,8 @@ good-requires : tie.Need-good-requires
 good-requires c κs = search needs
 
 returns : tie.Need-returns
-unfolding expiryRefusals expiryLists
-returns c =
-    let bad = bad-book _ _ (failed (c .before .good2 .ensures) (c .if1 .taken)) in
-    (expiry-refused _ _ 1 bad (λ e. omega arith), kept 1 _ _ _ bad (λ e. omega arith))
+unfolding expiryRefusals
+returns c = expiry-refused _ _ 1 (bad-book _ _ (failed (c .before .good2 .ensures) (c .if1 .taken))) (λ e. omega arith)
 
 refusal-requires : tie.Need-refusal-requires
 refusal-requires c κs = passed (c .before .before .before .before .before .before .before .good2 .ensures) (c .before .before .before .before .before .before .if1 .left)
@@ -37,8 +35,7 @@ same-length-6 : tie.Need-same-length-6
 same-length-6 c = search needs
 
 returns-2 : tie.Need-returns-2
-unfolding expiryLists
-returns-2 c = (expiry-refused _ _ _ (c .before .refusal .ensures) (c .if2 .taken), kept _ _ _ _ (c .before .refusal .ensures) (c .if2 .taken))
+returns-2 c = expiry-refused _ _ _ (c .before .refusal .ensures) (c .if2 .taken)
 
 deliver-requires : tie.Need-deliver-requires
 deliver-requires c κs = (passed (c .before .before .before .before .before .before .before .before .before .before .before .before .before .before .before .good2 .ensures) (c .before .before .before .before .before .before .before .before .before .before .before .before .before .before .if1 .left), room-of _ _ (sym (c .before .before .before .before .before .before .before .refusal .ensures) ∙ c .before .before .before .before .before .before .if2 .left))
@@ -65,12 +62,7 @@ same-length-12 : tie.Need-same-length-12
 same-length-12 c = search needs
 
 returns-3 : tie.Need-returns-3
-unfolding expiryLists
-returns-3 c =
-    let number = c .before .before .before .before .before .before .before .before .before .before .before .before .before .before .before .before .before .before .before .before .before .refusal .ensures in
-    let zero = c .before .before .before .before .before .before .before .before .before .before .before .before .before .before .before .before .before .before .before .before .if2 .left in
-    let delivered = c .before .before .before .before .before .before .before .before .before .before .before .before .before .deliver .ensures in
-    (expiry-accepted _ _ _ _ _ _ number zero (delivered .0 .0) (delivered .0 .1) (c .expired .ensures), delivered .1 ∙ written _ _ _ _ number zero)
+returns-3 c = expiry-accepted _ _ _ _ _ _ _ (c .before .before .before .before .before .before .before .before .before .before .before .before .before .before .before .before .before .before .before .before .before .refusal .ensures) (c .before .before .before .before .before .before .before .before .before .before .before .before .before .before .before .before .before .before .before .before .if2 .left) (c .before .before .before .before .before .before .before .before .before .before .before .before .before .deliver .ensures .0) (c .expired .ensures) (c .before .before .before .before .before .before .before .before .before .before .before .before .before .deliver .ensures .1)
 
 pub expiry-spec : {M : Type 1} → statement M
 expiry-spec =

@@ -1,9 +1,8 @@
-use Rattle.numbers.proofs.Words.{ℕ, _-_, _≤_, _<_, arith, _≡_, refl, sym, ap, ap₂, subst, _∙_, cond, List, [], _++_, map, length, set, take, drop, ℤ, pos, _+ℤ_, entryℤ, natAbs, w64, SFits, toZ, ofZ, toZ-ofZ, needs}
+use Rattle.numbers.proofs.Words.{_-_, _≤_, _<_, arith, _≡_, refl, sym, ap, ap₂, subst, _∙_, cond, List, [], _++_, map, length, set, take, drop, ℤ, pos, _+ℤ_, entryℤ, natAbs, w64, SFits, toZ, ofZ, toZ-ofZ, needs}
 use Rattle.rules.specs.declared.{book.Section.Section, units.Kopecks.Kopecks}
 use Rattle.numbers.proofs.Lists.{Has, has, written-next}
-use Rattle.numbers.proofs.Filled.{Filled, filled-none, filled-length, filled-next, filled-here}
+use Rattle.numbers.proofs.Filled.{Filled, filled-none, filled-length, filled-next, filled-here, filled-over}
 use Rattle.numbers.proofs.Whole.{read-back}
-use Rattle.numbers.proofs.Ranges.{listed-length}
 use Rattle.value.proofs.Laws.{value-within}
 use Rattle.rules.specs.Book.{sectionAt, sectionOfNoughts, valueAt}
 use Rattle.rules.specs.Calls.{settled, marginOf, afterSession}
@@ -134,10 +133,9 @@ unfolding afterSession
 returns c =
     let at = c .before .before .before .before in
     let a = start at .args in
-    let f = paidTo (a .added) (a .t1) (a .price) (a .list .now) in
     let all : at .loop .i ≡ a .t1 .held = ended (c .before .before .before) in (
       rw (c .before .before .following .ensures, at .loop .inv .1, all),
-      at .loop .inv .2 .entries ∙ rw (all, listed-length (a .t1 .held) f),
+      filled-over (at .loop .inv .2) (a .t1 .held) all,
     )
 
 pub after-session-spec : {M : Type 1} → statement M

@@ -287,7 +287,7 @@ fn notices(random: &mut Random, shape: &Shape, positions: &[i64], fates: &[Fate]
 }
 
 /// Splits lots into so many parts above 0, all alike where it can or at random.
-fn parts(random: &mut Random, lots: i64, count: usize) -> Vec<u32> {
+pub(super) fn parts(random: &mut Random, lots: i64, count: usize) -> Vec<u32> {
     let alike = random.percent(50);
     let mut open = lots as u32;
     let mut parts = Vec::new();

@@ -12,6 +12,7 @@ mod limits;
 pub mod lists;
 mod markets;
 mod medium;
+mod sized;
 mod small;
 
 use crate::reading::book::Book;
@@ -23,6 +24,7 @@ use crate::trial::random::Random;
 use damaged::damaged;
 use limits::limits;
 use medium::medium;
+pub use sized::sized;
 use small::small;
 
 /// The four kinds of file.

@@ -1,6 +1,5 @@
-use Rattle.numbers.proofs.Words.{_-_, _≤_, arith, _≡_, _∙_, entryℤ, w64, needs}
-use Rattle.numbers.proofs.Filled.{Filled, filled-none, filled-length, filled-next}
-use Rattle.numbers.proofs.Ranges.{listed-length}
+use Rattle.numbers.proofs.Words.{_-_, _≤_, arith, entryℤ, w64, needs}
+use Rattle.numbers.proofs.Filled.{Filled, filled-none, filled-length, filled-next, filled-over}
 use Rattle.numbers.proofs.Whole.{read-back}
 use Rattle.file_read.proofs.sums.put.Statement.{statement}
 use Rattle.file_read.proofs.sums.put.Tie as tie
@@ -39,10 +38,7 @@ same-length : tie.Need-same-length Inv-loop μ-loop
 same-length c = filled-length (c .before .loop .inv .1)
 
 returns : tie.Need-returns Inv-loop μ-loop
-returns c =
-    let paid = c .before .before .args .paid .now in
-    let all : c .before .loop .i ≡ c .before .before .args .held = omega arith in
-    c .before .loop .inv .1 .entries ∙ rw (all, listed-length (c .before .before .args .held) (entryℤ paid))
+returns c = filled-over (c .before .loop .inv .1) (c .before .before .args .held) (omega arith)
 
 pub put-spec : {M : Type 1} → statement M
 put-spec =

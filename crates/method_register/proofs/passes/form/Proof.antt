@@ -1,8 +1,7 @@
 -- The calls' `ensures`, one after the other.
 use Rattle.numbers.proofs.Words.{sym, subst₂, List, ℕ, length, replicate, length-take-le, now}
-use Rattle.method_steps.proofs.Laws.{noughts-front}
+use Rattle.numbers.proofs.Front.{noughts-front, Front, front-of}
 use Rattle.method_register.specs.Passes.{Parted}
-use Rattle.method_register.proofs.Laws.{Front, front-of}
 use Rattle.method_register.proofs.passes.form.Statement.{statement}
 use Rattle.method_register.proofs.passes.form.Tie as tie
 

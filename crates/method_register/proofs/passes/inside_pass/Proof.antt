@@ -1,12 +1,13 @@
 -- The calls' `ensures`, one after the other; where there is nothing to buy the pass forms nothing.
 use Rattle.numbers.proofs.Words.{ℕ, _+_, _≤_, arith, _≡_, sym, ap, ap₂, subst, subst₂, _∙_, List, _++_, append-nil, length, take, drop, replicate, length-take-le, eqb, now, entry, total}
+use Rattle.numbers.proofs.Front.{Front, front-of}
 use Rattle.numbers.proofs.Ranges.{listed-under}
 use Rattle.rules.specs.Expiry.Passes.{Line}
 use Rattle.method_laws.specs.Columns.{byKey}
 use Rattle.method_passes.specs.Formed.{linesIn, passPairs, passLines, Sold}
 use Rattle.method_passes.proofs.Stages.{nothing-paired, nothing-lined}
 use Rattle.method_register.specs.Passes.{lotsInCode, drawnInCode}
-use Rattle.method_register.proofs.Laws.{Front, front-of, sold-less}
+use Rattle.method_register.proofs.Laws.{sold-less}
 use Rattle.method_register.proofs.passes.inside_pass.Statement.{statement}
 use Rattle.method_register.proofs.passes.inside_pass.Tie as tie
 

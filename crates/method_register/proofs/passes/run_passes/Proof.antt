@@ -1,5 +1,6 @@
 -- The calls' `ensures`, one after the other: what the lists hold is a `Split`.
 use Rattle.numbers.proofs.Words.{needs, ℕ, _+_, _≤_, arith, _≡_, sym, ap, ap₂, subst, subst₂, _∙_, List, [], _++_, flatMap, length, replicate, length-append, length-take-le, now}
+use Rattle.numbers.proofs.Front.{Front, front-of}
 use Rattle.numbers.proofs.Ranges.{listed-length}
 use Rattle.rules.specs.declared.book.{Section.Section, Notice.Notice}
 use Rattle.rules.specs.Expiry.Passes.{Line}
@@ -8,7 +9,7 @@ use Rattle.method_laws.proofs.Columns.{sellers-long}
 use Rattle.method_passes.specs.Formed.{linesIn, passPairs, passLines, Sold}
 use Rattle.method_passes.proofs.Arrays.{lines-count}
 use Rattle.method_register.specs.Passes.{longLots, inCodes, pairsBy, linesBy, Read, Noticed, Drawing, Delivers}
-use Rattle.method_register.proofs.Laws.{Front, front-of, outsideOf, Split, all-pairs, all-kept, sold-of, read-of, lines-of, room}
+use Rattle.method_register.proofs.Laws.{outsideOf, Split, all-pairs, all-kept, sold-of, read-of, lines-of, room}
 use Rattle.method_register.proofs.passes.run_passes.Statement.{statement}
 use Rattle.method_register.proofs.passes.run_passes.Tie as tie
 

@@ -1,5 +1,6 @@
 -- The calls' `ensures`, one after the other.
 use Rattle.numbers.proofs.Words.{needs, ℕ, _≤_, arith, _≡_, sym, ap, ap₂, subst, _∙_, cond, List, ltb, length, replicate, length-take-le, ℤ, pos, natAbs, now, toZ-ofZ, entryℤ, listed}
+use Rattle.numbers.proofs.Front.{Front, front-of}
 use Rattle.rules.specs.declared.book.{Section.Section}
 use Rattle.numbers.proofs.Ranges.{listed-at, listed-same}
 use Rattle.rules.specs.Book.{positionOf}
@@ -10,7 +11,7 @@ use Rattle.method_laws.specs.Giving.{inOrder, taken, codeCaps}
 use Rattle.method_laws.proofs.Shares.{taken-across}
 use Rattle.method_laws.proofs.Columns.{told, code-at, codes-long}
 use Rattle.method_steps.specs.Held.{Held}
-use Rattle.method_steps.proofs.Laws.{noughts, Front, front-of}
+use Rattle.method_steps.proofs.Laws.{noughts}
 use Rattle.method_steps.proofs.across.give_across.Statement.{statement}
 use Rattle.method_steps.proofs.across.give_across.Tie as tie
 
@@ -18,8 +19,8 @@ few : (c : tie.Start) → length (now (c .args .left)) ≤ 128
 few c = c .pre .0 .few
 
 -- the lots that the first call leaves
-front : (c : tie.After-opposed-to) → Front (length (now (c .before .before .before .before .before .before .args .left))) (c .opposed-to .last .1 .1 .1 .0)
-front c = front-of _ _ (few (c .before .before .before .before .before .before)) (c .opposed-to .kept .1 .1 .1 .0)
+front : (c : tie.After-opposed-to) → Front (length (now (c .before .before .before .before .before .before .args .left))) noughts (c .opposed-to .last .1 .1 .1 .0)
+front c = front-of _ _ _ (few (c .before .before .before .before .before .before)) (c .opposed-to .kept .1 .1 .1 .0)
 
 -- the caps that the third call leaves
 caps-are : (c : tie.After-code-caps) (ss : List Section) → let a = c .before .before .before .before .before .before .before .before .before .before .before .before .before .args in now (a .codes) ≡ settlementsOf ss → now (a .positions) ≡ positionsOf ss → c .code-caps .last .1 .1 .0 ≡ codeCaps ss (a .d) (now (a .left))

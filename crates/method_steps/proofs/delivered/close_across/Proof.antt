@@ -1,8 +1,9 @@
 -- The calls' `ensures`, one after the other.
 use Rattle.numbers.proofs.Words.{needs, ℕ, _≤_, arith, sym, ap, _∙_, List, length, length-take-le, ℤ, now, toZ-ofZ, entry, less}
+use Rattle.numbers.proofs.Front.{noughts-front, Front, front-of}
 use Rattle.numbers.proofs.Ranges.{less-at}
 use Rattle.rules.specs.Expiry.Across.{givenAcross}
-use Rattle.method_steps.proofs.Laws.{noughts, noughts-front, Front, front-of}
+use Rattle.method_steps.proofs.Laws.{noughts}
 use Rattle.method_steps.proofs.delivered.close_across.Statement.{statement}
 use Rattle.method_steps.proofs.delivered.close_across.Tie as tie
 
@@ -13,8 +14,8 @@ few c = c .pre .0 .few
 abbrev more : tie.After-give-across → List ℕ
 more c = c .give-across .last .1 .1 .1 .1 .1 .0
 
-front : (c : tie.After-give-across) → Front (length (now (c .before .before .before .before .before .before .args .kept))) (more c)
-front c = front-of _ _ (few (c .before .before .before .before .before .before)) (c .give-across .kept .1 .1 .1 .1 .1 .0)
+front : (c : tie.After-give-across) → Front (length (now (c .before .before .before .before .before .before .args .kept))) noughts (more c)
+front c = front-of _ _ _ (few (c .before .before .before .before .before .before)) (c .give-across .kept .1 .1 .1 .1 .1 .0)
 
 array-borrow-prefix-more : tie.Need-array-borrow-prefix-more
 array-borrow-prefix-more c = few (c .before .before .before .before)

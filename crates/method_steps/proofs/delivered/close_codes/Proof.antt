@@ -1,10 +1,11 @@
 -- The calls' `ensures`, one after the other.
 use Rattle.numbers.proofs.Words.{needs, ℕ, _≤_, arith, refl, sym, ap, _∙_, List, length, length-take-le, ℤ, pos, _+ℤ_, now, toZ-ofZ, entry, entryℤ, listed, less, totalℤ}
+use Rattle.numbers.proofs.Front.{noughts-front, Front, front-of}
 use Rattle.numbers.proofs.Ranges.{listed-at, listed-same, less-at}
 use Rattle.rules.specs.Expiry.{netOfCode}
 use Rattle.rules.specs.Expiry.Codes.{givenInCodes}
 use Rattle.rules.specs.Expiry.Across.{dOverall}
-use Rattle.method_steps.proofs.Laws.{noughts, noughts-front, Front, front-of}
+use Rattle.method_steps.proofs.Laws.{noughts}
 use Rattle.method_steps.proofs.delivered.close_codes.Statement.{statement}
 use Rattle.method_steps.proofs.delivered.close_codes.Tie as tie
 
@@ -15,8 +16,8 @@ few c = c .pre .0 .0 .few
 abbrev given : tie.After-give → List ℕ
 given c = c .give .last .1 .1 .1 .1 .1 .1 .0
 
-front : (c : tie.After-give) → Front (length (now (c .before .before .before .before .before .before .args .kept))) (given c)
-front c = front-of _ _ (few (c .before .before .before .before .before .before)) (c .give .kept .1 .1 .1 .1 .1 .1 .0)
+front : (c : tie.After-give) → Front (length (now (c .before .before .before .before .before .before .args .kept))) noughts (given c)
+front c = front-of _ _ _ (few (c .before .before .before .before .before .before)) (c .give .kept .1 .1 .1 .1 .1 .1 .0)
 
 array-borrow-prefix-given : tie.Need-array-borrow-prefix-given
 array-borrow-prefix-given c = few (c .before .before .before .before)

@@ -1,12 +1,13 @@
 -- The calls' `ensures`, one after the other.
 use Rattle.numbers.proofs.Words.{needs, ℕ, _≤_, arith, sym, ap, ap₂, subst, _∙_, List, length, replicate, length-take-le, now, entry, total}
+use Rattle.numbers.proofs.Front.{Front, front-of}
 use Rattle.numbers.proofs.Ranges.{listed-length}
 use Rattle.rules.specs.Expiry.{lowerSectionCode}
 use Rattle.method_laws.specs.Giving.{sooner, inOrder, taken}
 use Rattle.method_laws.proofs.Shares.{taken-sizes}
 use Rattle.method_laws.proofs.Columns.{told}
 use Rattle.method_steps.specs.Held.{Held}
-use Rattle.method_steps.proofs.Laws.{noughts, Front, front-of, sizes-small}
+use Rattle.method_steps.proofs.Laws.{noughts, sizes-small}
 use Rattle.method_steps.proofs.in_codes.give.Statement.{statement}
 use Rattle.method_steps.proofs.in_codes.give.Tie as tie
 
@@ -14,8 +15,8 @@ few : (c : tie.Start) → length (now (c .args .kept)) ≤ 128
 few c = c .pre .0 .0 .few
 
 -- the lots that the first call leaves
-front : (c : tie.After-on-side-in-codes) → Front (length (now (c .before .before .before .before .before .before .args .kept))) (c .on-side-in-codes .last .1 .1 .1 .1 .1 .0)
-front c = front-of _ _ (few (c .before .before .before .before .before .before)) (c .on-side-in-codes .kept .1 .1 .1 .1 .1 .0)
+front : (c : tie.After-on-side-in-codes) → Front (length (now (c .before .before .before .before .before .before .args .kept))) noughts (c .on-side-in-codes .last .1 .1 .1 .1 .1 .0)
+front c = front-of _ _ _ (few (c .before .before .before .before .before .before)) (c .on-side-in-codes .kept .1 .1 .1 .1 .1 .0)
 
 array-borrow-prefix-lots : tie.Need-array-borrow-prefix-lots
 array-borrow-prefix-lots c = few (c .before .before .before .before)

@@ -1,10 +1,11 @@
 -- The order that the first call leaves in the front of the local list is what the second call gives by.
 use Rattle.numbers.proofs.Words.{needs, ℕ, _≤_, _<_, arith, _≡_, sym, ap, ap₂, subst, _∙_, List, length, replicate, length-replicate, length-take-le, now, entry}
+use Rattle.numbers.proofs.Front.{Front, front-of}
 use Rattle.numbers.proofs.Entries.{noughts-at}
 use Rattle.method_laws.specs.Columns.{byKey}
 use Rattle.method_laws.specs.Giving.{sooner, inOrder, taken, takenFrom}
 use Rattle.method_laws.proofs.Columns.{codes-long, order-by-keys}
-use Rattle.method_steps.proofs.Laws.{noughts, Front, front-of, order-below}
+use Rattle.method_steps.proofs.Laws.{noughts, order-below}
 use Rattle.method_steps.proofs.ordered.give.Statement.{statement}
 use Rattle.method_steps.proofs.ordered.give.Tie as tie
 
@@ -15,8 +16,8 @@ few c = c .pre .0 .few
 abbrev order : (c : tie.After-in-order) → List ℕ
 order c = c .in-order .last .1 .1 .1 .0
 
-front : (c : tie.After-in-order) → Front (length (now (c .before .before .before .before .before .before .before .args .lots))) (order c)
-front c = front-of _ (order c) (few (c .before .before .before .before .before .before .before)) (c .in-order .kept .1 .1 .1 .0)
+front : (c : tie.After-in-order) → Front (length (now (c .before .before .before .before .before .before .before .args .lots))) noughts (order c)
+front c = front-of _ _ (order c) (few (c .before .before .before .before .before .before .before)) (c .in-order .kept .1 .1 .1 .0)
 
 array-borrow-prefix-order : tie.Need-array-borrow-prefix-order
 array-borrow-prefix-order c = few (c .before .before .before .before .before)

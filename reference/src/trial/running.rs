@@ -1,0 +1,120 @@
+//! Runs a program on a file and holds what it prints against what is wanted.
+
+use std::fs::{self, File};
+use std::io::{self, Read};
+use std::path::Path;
+use std::process::{Child, Command, Stdio};
+use std::sync::mpsc;
+use std::thread;
+use std::time::Duration;
+
+/// How long a program may take over one file.
+const PATIENCE: Duration = Duration::from_secs(20);
+/// More than any listing has.
+const MOST_OUTPUT: u64 = 1 << 20;
+
+/// What the program answers to a file. Each run has a file of its own to lend,
+/// in the folder.
+pub fn answer(program: &str, bytes: &[u8], folder: &Path) -> Result<Answer, String> {
+    let path = folder.join(format!("run-{}.events", std::process::id()));
+    let at_path = |error: io::Error| format!("{}: {error}", path.display());
+    fs::write(&path, bytes).map_err(at_path)?;
+    let answer = run(program, &path).map_err(|error| format!("{program} cannot be run: {error}"));
+    fs::remove_file(&path).map_err(at_path)?;
+    answer
+}
+
+/// What a program did with a file.
+pub struct Answer {
+    pub output: Vec<u8>,
+    errors: Vec<u8>,
+    ended: Option<bool>,
+}
+
+impl Answer {
+    /// Why this is not the wanted answer, a normal end with nothing on standard
+    /// error.
+    pub fn unlike(&self, wanted: &[u8]) -> Option<String> {
+        let rows = |bytes: &[u8]| {
+            bytes
+                .split(|&b| b == b'\n')
+                .map(<[u8]>::to_vec)
+                .collect::<Vec<_>>()
+        };
+        match self.ended {
+            None => Some("the program did not end".to_string()),
+            Some(false) => Some("the program ended with a failure".to_string()),
+            Some(true) if self.output != wanted => {
+                let (own, theirs) = (rows(wanted), rows(&self.output));
+                let alike = own.iter().zip(&theirs).take_while(|(a, b)| a == b).count();
+                let row = |rows: &[Vec<u8>]| {
+                    rows.get(alike)
+                        .map_or("no row".to_string(), |row| quoted(row))
+                };
+                let (own, theirs) = (row(&own), row(&theirs));
+                Some(format!(
+                    "row {}: wanted is {own}, the program has {theirs}",
+                    alike + 1
+                ))
+            }
+            Some(true) if !self.errors.is_empty() => {
+                Some("the program wrote to standard error".to_string())
+            }
+            Some(true) => None,
+        }
+    }
+}
+
+/// A row as text, its start if it is long.
+fn quoted(row: &[u8]) -> String {
+    format!("{:?}", String::from_utf8_lossy(&row[..row.len().min(60)]))
+}
+
+/// Runs the program with the file on standard input.
+fn run(program: &str, path: &Path) -> io::Result<Answer> {
+    let mut child = Command::new(program)
+        .stdin(Stdio::from(File::open(path)?))
+        .stdout(Stdio::piped())
+        .stderr(Stdio::piped())
+        .spawn()?;
+    let output = collect(child.stdout.take());
+    let errors = collect(child.stderr.take());
+    let in_time = output
+        .recv_timeout(PATIENCE)
+        .and_then(|o| Ok((o, errors.recv_timeout(PATIENCE)?)));
+    let Ok((output, errors)) = in_time else {
+        stop(&mut child)?;
+        return Ok(Answer {
+            output: vec![],
+            errors: vec![],
+            ended: None,
+        });
+    };
+    if output.len() as u64 == MOST_OUTPUT {
+        stop(&mut child)?;
+    }
+    let ended = Some(child.wait()?.success());
+    Ok(Answer {
+        output,
+        errors,
+        ended,
+    })
+}
+
+fn stop(child: &mut Child) -> io::Result<()> {
+    child.kill()?;
+    child.wait().map(|_| ())
+}
+
+/// Reads a stream to its end on a thread of its own.
+fn collect(stream: Option<impl Read + Send + 'static>) -> mpsc::Receiver<Vec<u8>> {
+    let (send, receive) = mpsc::channel();
+    thread::spawn(move || {
+        let mut bytes = Vec::new();
+        if let Some(stream) = stream {
+            let _ = stream.take(MOST_OUTPUT).read_to_end(&mut bytes);
+        }
+        let _ = send.send(bytes);
+    });
+    receive
+}
