@@ -102,14 +102,14 @@ module _ (file : List ℕ) (lent : Lent) (e : readWhole file lent .number ≡ 0)
   few-events = omega (arith, ap (λ (r : Run). r .place) (whole-from file lent e), whole-read file lent e .place, shaped file (whole-shaped file lent e) .few)
 
   -- an accepted read is within the limits of a listing (01, Program, 1)
-  accepted-limits : Listable (fileAnswer run) (fileLists run lent)
+  pub accepted-limits : Listable (fileAnswer run) (fileLists run lent)
   unfolding fileAnswer fileLists
   accepted-limits =
       let b = run .book in
       let new : Lent = record { lists = expiryWritten b (lent .lists); sums = over (listed (b .held) (entryℤ (run .sums))) (lent .sums) } in
-      let handed : (n : ℕ) → Lent = λ (n : ℕ). handedOut n new lent in
+      let handed : ℕ → Lent = λ (n : ℕ). handedOut n new lent in
       subst
-      (λ (n : ℕ). Listable (record { number = n; place = run .place; pairs = count n (pairs (heldSections b) (filedNotices b)); lines = count n (lines (heldSections b) (filedNotices b)); book = b }) (handedOut n new lent))
+      (λ (n : ℕ). Listable (record { number = n; place = run .place; pairs = count n (pairs (heldSections b) (filedNotices b)); lines = count n (lines (heldSections b) (filedNotices b)); book = b }) (handed n))
       (sym e)
       (record {
         few = few-lines book-good;

@@ -1,4 +1,4 @@
-use Rattle.numbers.proofs.Words.{arith, needs}
+use Rattle.numbers.proofs.Words.{arith, le-trans, needs}
 use Rattle.listing.proofs.Laws.Most.{refused-most}
 use Rattle.file_listing.proofs.refused.Statement.{statement}
 use Rattle.file_listing.proofs.refused.Tie as tie
@@ -7,9 +7,7 @@ slice-aggregate-refused : tie.Need-slice-aggregate-refused
 slice-aggregate-refused c = search needs
 
 refused-requires : tie.Need-refused-requires
-refused-requires c κs =
-    let s = c .before in
-    omega (arith, refused-most (s .args .number) (s .args .place) (omega (arith, s .fits .number)) (omega (arith, s .fits .place)))
+refused-requires c κs = le-trans (refused-most _ _ (omega (arith, c .before .fits)) (omega (arith, c .before .fits))) (omega arith)
 
 returns : tie.Need-returns
 returns c = search needs
