@@ -16,7 +16,7 @@ use Rattle.book_laws.proofs.Held.{held-length, held-good, listed-good, filed-go
 use Rattle.method_laws.proofs.Sides.{Within}
 use Rattle.method_laws.proofs.Steps.{within-kept}
 use Rattle.method_laws.proofs.Lines as register
-use Rattle.call_expiry.proofs.Book.{few-lines}
+use Rattle.method_delivery.proofs.Book.{few-lines}
 use Rattle.file_event.proofs.Laws.Cases.{shaped}
 use Rattle.read_laws.proofs.Read.{whole-shaped, whole-from, whole-read}
 use Rattle.read_laws.proofs.Along.{sums-within}
