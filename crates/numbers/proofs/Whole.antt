@@ -102,8 +102,12 @@ product-difference z x y =
     rw (*ℤ-comm z (x -ℤ y), *ℤ-comm z x, *ℤ-comm z y) (sym (+ℤ-negℤ-cancel ((x -ℤ y) *ℤ z) (y *ℤ z)) ∙ ap (λ (t : ℤ). t -ℤ y *ℤ z) whole)
 
 -- and over a change of sign
-pub negated-product : (z : ℤ) (v : ℕ) → negℤ z *ℤ pos v ≡ negℤ (z *ℤ pos v)
-negated-product z v = ext _ _ (omega (arith, negated z, negated (z *ℤ pos v), product z v, product (negℤ z) v, ap (λ (n : ℕ). n * v) (negated z .0), ap (λ (n : ℕ). n * v) (negated z .1)))
+negated-product-up : (z : ℤ) (v : ℕ) → negℤ z *ℤ pos v ≡ negℤ (z *ℤ pos v)
+negated-product-up z v = ext _ _ (omega (arith, negated z, negated (z *ℤ pos v), product z v, product (negℤ z) v, ap (λ (n : ℕ). n * v) (negated z .0), ap (λ (n : ℕ). n * v) (negated z .1)))
+
+pub negated-product : (z v : ℤ) → negℤ z *ℤ v ≡ negℤ (z *ℤ v)
+negated-product z (pos v) = negated-product-up z v
+negated-product z (negsuc n) = *ℤ-negsuc (negℤ z) n ∙ ap negℤ (negated-product-up z (suc n) ∙ sym (*ℤ-negsuc z n))
 
 -- the machine's tests of order, as tests on the sides
 pub leZ-sides : (x y : ℤ) → leZ x y ≡ leb (plus x + minus y) (plus y + minus x)
