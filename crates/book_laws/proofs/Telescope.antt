@@ -4,7 +4,7 @@ use Rattle.numbers.proofs.Words.{ℕ, _+_, _≤_, zero-le, _≡_, refl, subst, 
 use Rattle.rules.specs.declared.{book.Book.Book}
 use Rattle.numbers.proofs.Tests.{below-or-not}
 use Rattle.numbers.proofs.Whole.{difference-within}
-use Rattle.value.proofs.Laws.{value-within, worth-within}
+use Rattle.value_laws.proofs.Value.{value-within, worth-within}
 use Rattle.rules.specs.Units.{worth}
 use Rattle.rules.specs.Book.{basisOf, sectionAt, valueAt}
 use Rattle.rules.specs.History.{sided}

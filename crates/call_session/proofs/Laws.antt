@@ -5,7 +5,7 @@ use Rattle.numbers.proofs.Tests.{below-or-not}
 use Rattle.numbers.proofs.Whole.{difference-within, sfits-size}
 use Rattle.numbers.proofs.Lists.{over-at, over-past}
 use Rattle.numbers.proofs.Ranges.{listed-same, listed-front, listed-length, listed-at}
-use Rattle.value.proofs.Laws.{value-within, worth-within}
+use Rattle.value_laws.proofs.Value.{value-within, worth-within}
 use Rattle.rules.specs.Units.{worth}
 use Rattle.rules.specs.Book.{sectionAt, sectionOfNoughts, basisOf, valueAt}
 use Rattle.rules.specs.Calls.{marginOf, margins}

@@ -2,7 +2,7 @@
 use Rattle.numbers.proofs.Words.{ℕ, _≤_, arith, _≡_, refl, sym, ap, _∙_, true, List, map, map-map, length, drop, length-map, take-at, drop-at, length-front, pos, natAbs, every, totalℤ}
 use Rattle.rules.specs.declared.{book.Book.Book, book.Section.Section, book.LastSession.LastSession, book.LastSession.the-variants.None, book.LastSession.the-variants.Day, book.LastSession.the-variants.Evening, units.Kopecks.Kopecks}
 use Rattle.numbers.proofs.Changed.{every-read, every-weaker}
-use Rattle.value.proofs.Laws.{value-within, worth-within}
+use Rattle.value_laws.proofs.Value.{value-within, worth-within}
 use Rattle.rules.specs.Book.{good, lastGood, positionOf, basisOf, sectionGood, heldSections, valueAt}
 use Rattle.rules.specs.Calls.{sessionNumber, following, settled, afterSession}
 use Rattle.book_laws.proofs.Accepted.{session}

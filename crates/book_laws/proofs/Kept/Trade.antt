@@ -1,10 +1,9 @@
 -- An accepted trade leaves a good book.
 use Rattle.numbers.proofs.Words.{ℕ, _+_, _≤_, _<_, arith, _≡_, refl, sym, subst, subst₂, true, [], getD, set, getD-set-other, ℤ, pos, negℤ, natAbs, _+ℤ_, +ℤ-idl, +ℤ-invr}
 use Rattle.rules.specs.declared.{book.Book.Book, book.Section.Section, units.Lots.Lots}
-use Rattle.value.proofs.Laws.{value-within, worth-within, worth-sold}
+use Rattle.value_laws.proofs.Value.{value-within, worth-within, worth-sold}
 use Rattle.numbers.proofs.Whole.{sum-within}
 use Rattle.rules.specs.Units.{worth}
-use Rattle.rules.specs.Value.{factor}
 use Rattle.rules.specs.Book.{good, positionOf, basisOf, sectionAt, sectionOfNoughts, valueAt}
 use Rattle.rules.specs.Calls.{tradeNumber, moved, traded}
 use Rattle.book_laws.proofs.Accepted.{NewTrade, trade}
@@ -64,7 +63,7 @@ module _ (b : Book) (buyer seller price lots : ℕ) (call : NewTrade b buyer sel
       let new = after b seller (sold lots) price in
       let selling = party-moves seller (sold lots) (call .party .seller-known) (call .room .seller-within) (sold-size lots few) in
       subst₂ (Changed b (traded b buyer seller price lots .sections) (b .trades + 1)) (back (pos lots) (negℤ (pos lots)) refl)
-      (back (worth (bought lots) v .0) (worth (sold lots) v .0) (worth-sold (pos lots) (factor (b .w) (b .r)) price))
+      (back (worth (bought lots) v .0) (worth (sold lots) v .0) (worth-sold (pos lots) v))
       (one-changed book buyer-changed seller (call .party .seller-known) (sectionOfNoughts []) new
       (subst (λ (s : Section). Moves (b .trades + 1) s new (negℤ (pos lots)) (worth (sold lots) v .0)) seller-stands selling))
 

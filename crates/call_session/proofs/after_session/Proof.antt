@@ -3,7 +3,7 @@ use Rattle.rules.specs.declared.{book.Section.Section, units.Kopecks.Kopecks}
 use Rattle.numbers.proofs.Lists.{Has, has, written-next}
 use Rattle.numbers.proofs.Filled.{Filled, filled-none, filled-length, filled-next, filled-here, filled-over}
 use Rattle.numbers.proofs.Whole.{read-back}
-use Rattle.value.proofs.Laws.{value-within}
+use Rattle.value_laws.proofs.Value.{value-within}
 use Rattle.rules.specs.Book.{sectionAt, sectionOfNoughts, valueAt}
 use Rattle.rules.specs.Calls.{settled, marginOf, afterSession}
 use Rattle.book_laws.proofs.Accepted.{NewSession, session}

@@ -1,7 +1,7 @@
 use Rattle.numbers.proofs.Words.{arith, _≡_, sym, ap, ap₂, subst₂, _∙_, ℤ, natAbs, _-ℤ_, w64, SFits, toZ, ofZ, toZ-ofZ}
 use Rattle.rules.specs.declared.units.{Kopecks.Kopecks}
 use Rattle.numbers.proofs.Whole.{difference-within, sfits-size, read-back}
-use Rattle.value.proofs.Laws.{worth-within}
+use Rattle.value_laws.proofs.Value.{worth-within}
 use Rattle.rules.specs.Units.{worth}
 use Rattle.rules.specs.Book.{basisOf}
 use Rattle.rules.specs.Calls.{marginOf}

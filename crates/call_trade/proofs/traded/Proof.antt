@@ -1,6 +1,6 @@
 use Rattle.numbers.proofs.Words.{_≤_, _<_, arith, _≡_, ap, ap₂, sym, subst, _∙_, ℤ, pos, negℤ, natAbs, needs}
 use Rattle.rules.specs.declared.units.{Kopecks.Kopecks}
-use Rattle.value.proofs.Laws.{value-within}
+use Rattle.value_laws.proofs.Value.{value-within}
 use Rattle.rules.specs.Book.{sectionAt, valueAt}
 use Rattle.rules.specs.Calls.{moved, traded}
 use Rattle.book_laws.proofs.Accepted.{NewTrade, trade}

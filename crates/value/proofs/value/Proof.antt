@@ -1,30 +1,30 @@
--- Two 32-bit factors: the product fits 64 bits, and a hundred-thousandth of it fits a signed number.
-use Rattle.numbers.proofs.Words.{needs, _*_, _≤_, _<_, _^_, mul-le-mul, arith, ap, _∙_, ℤ, w64, toZ-pos}
+-- A product that fits 64 bits: a hundred-thousandth of it fits a signed number.
+use Rattle.numbers.proofs.Words.{ℕ, needs, _<_, _^_, arith, lit<, ap, _∙_, ℤ, w64, toZ-pos}
 use Rattle.rules.specs.declared.units.{Kopecks.Kopecks}
-use Rattle.rules.specs.Value.{rounded, value, valueOf}
-use Rattle.value.proofs.Laws.{rounded-rises}
+use Rattle.rules.specs.Rounding.{rounded}
+use Rattle.rules.specs.Value.{value, valueOf}
+use Rattle.value_laws.proofs.Rounding.{rounding, rounded-most}
 use Rattle.value.proofs.value.Statement.{statement}
 use Rattle.value.proofs.value.Tie as tie
 
-product-limit : (c : tie.Start) → c .args .price * c .args .k ≤ 4_294_967_295 * 4_294_967_295
-product-limit c = mul-le-mul {n₂ = 4_294_967_295} {m₂ = 4_294_967_295} (omega arith) (omega arith)
-
-mul-rounded : tie.Need-mul-rounded
-mul-rounded c = omega (arith, product-limit c)
+multiplied-requires : tie.Need-multiplied-requires
+multiplied-requires c κs = search needs
 
 rounded-requires : tie.Need-rounded-requires
 rounded-requires c κs = search needs
 
 result-limit : (c : tie.After-rounded) → c .rounded .result < 2 ^ 63
-unfolding rounded
-result-limit c = omega (arith, c .rounded .ensures, rounded-rises 100_000 (product-limit (c .before)))
+result-limit c =
+    omega (arith, c .rounded .ensures, rounded-most rounding (c .before .multiplied .result) 100_000 200_000_000_000_000 (lit< tt) (omega arith))
 
-cast-t7 : tie.Need-cast-t7
-cast-t7 c = record { sfits = result-limit c }
+cast-kopecks : tie.Need-cast-kopecks
+cast-kopecks c = record { sfits = result-limit c }
 
 returns : tie.Need-returns
 unfolding value valueOf
-returns c = ap (λ (z : ℤ). record { 0 = z }) (toZ-pos w64 (result-limit c) ∙ ap ℤ.pos (c .rounded .ensures))
+returns c =
+    ap (λ (z : ℤ). record { 0 = z })
+    (toZ-pos w64 (result-limit c) ∙ ap ℤ.pos (c .rounded .ensures ∙ ap (λ (n : ℕ). rounded n 100_000) (c .before .multiplied .ensures)))
 
 pub value-spec : {M : Type 1} → statement M
-value-spec = tie.close (tie.spec mul-rounded rounded-requires cast-t7 returns)
+value-spec = tie.close (tie.spec multiplied-requires rounded-requires cast-kopecks returns)
