@@ -1,5 +1,6 @@
 -- A product that fits 64 bits: a hundred-thousandth of it fits a signed number.
 use Rattle.numbers.proofs.Words.{ℕ, needs, _<_, _^_, arith, lit<, ap, _∙_, ℤ, w64, toZ-pos}
+use native.Mathlib.Nat.{lt-of-le-of-lt}
 use Rattle.rules.specs.declared.units.{Kopecks.Kopecks}
 use Rattle.rules.specs.Rounding.{rounded}
 use Rattle.rules.specs.Value.{value, valueOf}
@@ -14,8 +15,7 @@ rounded-requires : tie.Need-rounded-requires
 rounded-requires c κs = search needs
 
 result-limit : (c : tie.After-rounded) → c .rounded .result < 2 ^ 63
-result-limit c =
-    omega (arith, c .rounded .ensures, rounded-most rounding (c .before .multiplied .result) 100_000 200_000_000_000_000 (lit< tt) (omega arith))
+result-limit c = rw (c .rounded .ensures) (lt-of-le-of-lt (rounded-most rounding _ _ 2_000_000_000_000_000 (lit< tt) (omega arith)) (omega arith))
 
 cast-kopecks : tie.Need-cast-kopecks
 cast-kopecks c = record { sfits = result-limit c }

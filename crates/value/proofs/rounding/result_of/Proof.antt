@@ -22,15 +22,15 @@ add-result-2 c = omega (arith, rw (c .enum-told3 .given .1) at (c .before .befor
 
 returns : tie.Need-returns
 unfolding resultOf
-returns c = rw (c .enum-told .given .1)
+returns c = rw (c .enum-told .given .1) (omega arith)
 
 returns-2 : tie.Need-returns-2
 unfolding resultOf
-returns-2 c = rw (c .enum-told2 .given .1)
+returns-2 c = rw (c .enum-told2 .given .1) (omega arith)
 
 returns-3 : tie.Need-returns-3
 unfolding resultOf
-returns-3 c = rw (c .enum-told3 .given .1)
+returns-3 c = rw (c .enum-told3 .given .1) (omega arith)
 
 pub result-of-spec : {M : Type 1} → statement M
 result-of-spec =
