@@ -13,7 +13,7 @@ pub use lib.Seq.{drop-at, drop-cons, drop-drop, drop-set-lt, getD-append-add, ge
 pub use lib.Dec.{T, eqb, leb, leb·suc-suc, lit<, ltb}
 pub use mir.Val.{Fits, SFits, hbits, ofZ, toZ}
 pub use mathlib.Core.Logic.{_⊎_, inl, inr, ⊎-elim}
-pub use native.Mathlib.Nat.{add-assoc, add-comm, add-sub-cancel-left, add-zero, div-add-mod', div-eq-of-lt-le, div-lt-iff-lt-mul, div-mul-le-self, div-zero, le-antisymm, le-div-iff-mul-le, le-mul-of-pos-right, le-of-lt, le-of-suc-le-suc, le-trans, min-le-left, min-le-right, mod-lt, mul-le-mul, mul-le-mul-left, not-suc-le-zero, pos-of-ne-zero, pow-suc, zero-add, zero-min}
+pub use native.Mathlib.Nat.{add-assoc, add-comm, add-sub-cancel-left, add-zero, div-add-mod', div-eq-of-lt-le, div-lt-iff-lt-mul, div-mul-le-self, div-zero, eq-zero-or-pos, le-antisymm, le-div-iff-mul-le, le-mul-of-pos-right, le-of-lt, le-of-mul-le-mul-right, le-of-suc-le-suc, le-trans, lt-of-le-of-lt, min-le-left, min-le-right, mod-lt, mod-zero, mul-div-cancel, mul-le-mul, mul-le-mul-left, mul-le-mul-right, mul-lt-mul-of-pos-right, mul-mod-left, not-suc-le-zero, pos-of-ne-zero, pow-suc, zero-add, zero-min}
 pub use denote.Ref.{now}
 pub use mir.Syntax.{Width, w64}
 pub use mir.Facts.{toZ-ofZ, toZ-pos}

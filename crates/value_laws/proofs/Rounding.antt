@@ -1,6 +1,5 @@
 -- What is shown of the rounding, and the two laws that others stand on. They do not depend on what is done at half (`Rules.antt`).
-use Rattle.numbers.proofs.Words.{ℕ, _+_, _*_, _/_, _%_, _≤_, _<_, arith, _≡_, refl, sym, ap, subst, _∙_, ℤ, pos, negsuc, natAbs, _-ℤ_, div-zero, div-add-mod', div-eq-of-lt-le, mod-lt, max, ⊎-elim, le-trans, le-mul-of-pos-right}
-use native.Mathlib.Nat.{mul-le-mul-right, eq-zero-or-pos}
+use Rattle.numbers.proofs.Words.{ℕ, _+_, _*_, _/_, _%_, _≤_, _<_, arith, _≡_, refl, sym, ap, subst, _∙_, ℤ, pos, negsuc, natAbs, _-ℤ_, div-zero, div-add-mod', div-eq-of-lt-le, mod-lt, max, ⊎-elim, le-trans, le-mul-of-pos-right, mul-le-mul-right, eq-zero-or-pos}
 use Rattle.numbers.proofs.Whole.{Sides, difference}
 use Rattle.rules.specs.declared.rounding.{Case.Case}
 use Rattle.rules.specs.declared.rounding.Case.the-variants.{BelowHalf, AtHalf, AboveHalf}
@@ -45,17 +44,12 @@ module _ (n d : ℕ) (h : 0 < d) where
   unfolding rounded divided
   rounded-in case lies = ap (resultOf (n / d)) (sym (case-alone case (n % d) d lies))
 
-  before : (case : Case) → Lies case (n % d) d → resultOf (n / d) case ≡ (2 * n + d) / (2 * d)
+  -- the multiple of the divisor that the result stands for lies at most half a divisor above n, and less than that below it
+  around : (case : Case) → Lies case (n % d) d → n / d * d + n % d ≡ n → n % d < d → (2 * (resultOf (n / d) case * d) ≤ 2 * n + d) × (2 * n < 2 * (resultOf (n / d) case * d) + d)
   unfolding resultOf Lies
-  before BelowHalf lies = sym (div-eq-of-lt-le (2 * d) (omega (arith, div-add-mod' n d)) (omega (arith, div-add-mod' n d)))
-  before AtHalf lies = sym (div-eq-of-lt-le (2 * d) (omega (arith, div-add-mod' n d)) (omega (arith, div-add-mod' n d)))
-  before AboveHalf lies = sym (div-eq-of-lt-le (2 * d) (omega (arith, div-add-mod' n d)) (omega (arith, div-add-mod' n d, mod-lt n h)))
-
-  near : (case : Case) → Lies case (n % d) d → 2 * natAbs (pos n -ℤ pos (resultOf (n / d) case * d)) ≤ d
-  unfolding resultOf Lies
-  near BelowHalf lies = apart n (n / d * d) d (omega (arith, div-add-mod' n d)) (omega (arith, div-add-mod' n d))
-  near AtHalf lies = apart n ((n / d + 1) * d) d (omega (arith, div-add-mod' n d, mod-lt n h)) (omega (arith, div-add-mod' n d))
-  near AboveHalf lies = apart n ((n / d + 1) * d) d (omega (arith, div-add-mod' n d, mod-lt n h)) (omega (arith, div-add-mod' n d))
+  around BelowHalf lies division remains = (omega arith, omega arith)
+  around AtHalf lies division remains = (omega arith, omega arith)
+  around AboveHalf lies division remains = (omega arith, omega arith)
 
   -- quotient and remainder, one case, its result, the same values, and the nearest (02, c, 3)
   pub rounded-shown : Shown n d
@@ -63,6 +57,7 @@ module _ (n d : ℕ) (h : 0 < d) where
   rounded-shown =
       let found = caseOf (n % d) d in
       let lies = case-holds (n % d) d in
+      let limits = around found lies (div-add-mod' n d) (mod-lt n h) in
       record {
         division = sym (div-add-mod' n d);
         remains = mod-lt n h;
@@ -71,6 +66,6 @@ module _ (n d : ℕ) (h : 0 < d) where
         below-half = rounded-in BelowHalf;
         at-half = rounded-in AtHalf;
         above-half = rounded-in AboveHalf;
-        as-before = rounded-in found lies ∙ before found lies;
-        nearest = rw (rounded-in found lies) (near found lies);
+        as-before = rounded-in found lies ∙ sym (div-eq-of-lt-le (2 * d) (omega arith) (omega arith));
+        nearest = rw (rounded-in found lies) (apart n (resultOf (n / d) found * d) d (omega arith) (limits .0));
       }

@@ -1,7 +1,6 @@
 -- Any rule for the result: below half the quotient, above half one more, and at half one of the two, by the quotient alone. It rounds a whole number to itself
 -- and never falls: so a rule may be chosen at half, and what stands on those two laws stays.
-use Rattle.numbers.proofs.Words.{ℕ, _+_, _*_, _/_, _%_, _≤_, _<_, arith, _≡_, refl, sym, ap, _∙_, Bool, true, false, cond, ⊎-elim, ltb, eqb, lt-ltb, le-ltb, ltb-true, ltb-false, eqb-true, eqb-false, eq-eqb, ne-eqb, le-trans, le-div-iff-mul-le, div-mul-le-self, div-add-mod', mul-le-mul}
-use native.Mathlib.Nat.{mul-div-cancel, mul-mod-left, mul-le-mul-right, mul-lt-mul-of-pos-right, le-of-mul-le-mul-right}
+use Rattle.numbers.proofs.Words.{ℕ, _+_, _*_, _/_, _%_, _≤_, _<_, arith, _≡_, refl, ap, Bool, true, false, cond, ⊎-elim, ltb, eqb, lt-ltb, le-ltb, ltb-true, ltb-false, eqb-true, eqb-false, eq-eqb, ne-eqb, le-div-iff-mul-le, div-mul-le-self, div-add-mod', mul-div-cancel, mul-mod-left, mul-le-mul-right, mul-lt-mul-of-pos-right, le-of-mul-le-mul-right}
 use Rattle.numbers.proofs.Tests.{below-or-not}
 use Rattle.rules.specs.declared.rounding.{Case.Case}
 use Rattle.rules.specs.declared.rounding.Case.the-variants.{BelowHalf, AtHalf, AboveHalf}

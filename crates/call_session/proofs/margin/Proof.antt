@@ -1,4 +1,4 @@
-use Rattle.numbers.proofs.Words.{arith, _≡_, sym, ap, ap₂, subst₂, _∙_, ℤ, natAbs, _-ℤ_, w64, SFits, toZ, ofZ, toZ-ofZ}
+use Rattle.numbers.proofs.Words.{arith, _≡_, sym, ap, ap₂, subst₂, _∙_, ℤ, _-ℤ_, w64, SFits, toZ, ofZ, toZ-ofZ}
 use Rattle.rules.specs.declared.units.{Kopecks.Kopecks}
 use Rattle.numbers.proofs.Whole.{difference-within, sfits-size, read-back}
 use Rattle.value_laws.proofs.Value.{worth-within}

@@ -1,4 +1,4 @@
-use Rattle.numbers.proofs.Words.{_≤_, _<_, arith, _≡_, ap, ap₂, sym, subst, _∙_, ℤ, pos, negℤ, natAbs, needs}
+use Rattle.numbers.proofs.Words.{_≤_, _<_, arith, _≡_, ap₂, sym, subst, _∙_, ℤ, pos, negℤ, natAbs, needs}
 use Rattle.rules.specs.declared.units.{Kopecks.Kopecks}
 use Rattle.value_laws.proofs.Value.{value-within}
 use Rattle.rules.specs.Book.{sectionAt, valueAt}

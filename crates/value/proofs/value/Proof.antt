@@ -1,7 +1,5 @@
 -- A product that fits 64 bits: a hundred-thousandth of it fits a signed number.
-use Rattle.numbers.proofs.Words.{ℕ, needs, _<_, _^_, arith, lit<, ap, _∙_, ℤ, w64, toZ-pos}
-use native.Mathlib.Nat.{lt-of-le-of-lt}
-use Rattle.rules.specs.declared.units.{Kopecks.Kopecks}
+use Rattle.numbers.proofs.Words.{ℕ, needs, _<_, _^_, arith, lit<, ap, _∙_, ℤ, w64, toZ-pos, lt-of-le-of-lt}
 use Rattle.rules.specs.Rounding.{rounded}
 use Rattle.rules.specs.Value.{value, valueOf}
 use Rattle.value_laws.proofs.Rounding.{rounding, rounded-most}

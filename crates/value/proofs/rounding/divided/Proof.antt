@@ -1,5 +1,4 @@
-use Rattle.numbers.proofs.Words.{needs, refl, div-zero}
-use native.Mathlib.Nat.{mod-zero}
+use Rattle.numbers.proofs.Words.{needs, refl, div-zero, mod-zero}
 use Rattle.rules.specs.Rounding.{divided}
 use Rattle.value.proofs.rounding.divided.Statement.{statement}
 use Rattle.value.proofs.rounding.divided.Tie as tie
