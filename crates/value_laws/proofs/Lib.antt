@@ -1,3 +1,4 @@
 pub mod Rules
 pub mod Rounding
 pub mod Value
+pub mod Before
