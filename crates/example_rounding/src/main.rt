@@ -6,7 +6,7 @@ use rules::rounding::Case;
 use value::rounding;
 use value::signed;
 
-fn word(text: &[u8]) -> bool {
+fn text(text: &[u8]) -> bool {
     io::write_all(STDOUT_FILENO, text)
 }
 
@@ -14,11 +14,11 @@ fn number(n: u64) -> bool {
     io::print_decimal(STDOUT_FILENO, n)
 }
 
-fn words(case: Case) -> bool {
+fn case_in_words(case: Case) -> bool {
     match case {
-        Case::BelowHalf => word(b" below half "),
-        Case::AtHalf => word(b" at half "),
-        Case::AboveHalf => word(b" above half "),
+        Case::BelowHalf => text(b" below half "),
+        Case::AtHalf => text(b" at half "),
+        Case::AboveHalf => text(b" above half "),
     }
 }
 
@@ -28,38 +28,40 @@ fn row(first: u32, second: u32, n: u64, d: u64, result: u64) -> bool {
     let quotient = division.quotient;
     let remainder = division.remainder;
     let case = rounding::case_of(remainder, d);
-    let made_from = number(first as u64) & word(b" ") & number(second as u64);
-    let whole = word(b" quotient ") & number(quotient);
-    let rest = word(b" remainder ") & number(remainder) & words(case);
-    made_from & whole & rest & number(result) & word(b"\n")
+    let made_from = number(first as u64) & text(b" ") & number(second as u64);
+    let whole = text(b" quotient ") & number(quotient);
+    let rest = text(b" remainder ") & number(remainder) & case_in_words(case);
+    made_from & whole & rest & number(result) & text(b"\n")
 }
 
-fn factor(w: u32, r: u32) -> bool {
+// The row of a K.
+fn factor_row(w: u32, r: u32) -> bool {
     let n = FACTOR_UNIT * (w as u64);
     row(w, r, n, r as u64, value::factor(w, r))
 }
 
-fn price(price: u32, k: u32) -> bool {
+// The row of a V.
+fn value_row(price: u32, k: u32) -> bool {
     let n = value::multiplied(price, k);
     let v = value::value(k, price);
     row(price, k, n, FACTOR_UNIT, signed::size(v.0))
 }
 
-fn factors() -> bool {
-    let thirds = factor(1, 3) & factor(2, 3);
-    let halves = factor(1, 200_000) & factor(1, 200_001);
+fn factor_rows() -> bool {
+    let thirds = factor_row(1, 3) & factor_row(2, 3);
+    let halves = factor_row(1, 200_000) & factor_row(1, 200_001);
     thirds & halves
 }
 
-fn prices() -> bool {
-    let third = price(10_000_000, 33_333);
-    let ones = price(49_999, 1) & price(50_000, 1) & price(150_000, 1);
+fn value_rows() -> bool {
+    let third = value_row(10_000_000, 33_333);
+    let ones = value_row(49_999, 1) & value_row(50_000, 1) & value_row(150_000, 1);
     third & ones
 }
 
 fn main() {
-    let upper = word(b"W and R, then K\n") & factors();
-    let lower = word(b"price and K, then V\n") & prices();
+    let upper = text(b"W and R, then K\n") & factor_rows();
+    let lower = text(b"price and K, then V\n") & value_rows();
     if !(upper & lower) {
         os::fail(b"standard output cannot be written");
     }

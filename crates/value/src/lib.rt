@@ -18,7 +18,7 @@ pub fn factor(w: u32, r: u32) -> u64
     rounding::rounded(FACTOR_UNIT * (w as u64), r as u64)
 }
 
-// What V is rounded from: two numbers of 32 bits, multiplied.
+// What V is rounded from: the price times K (01, Value, 3). Two numbers of 32 bits multiplied fit 64.
 pub fn multiplied(price: u32, k: u32) -> u64
     ensures { λ r. ⌜ r ≡ price * k ⌝ }
 {
