@@ -1,0 +1,139 @@
+-- The day after a date has the next number, whatever month, year or leap day lies between.
+use Rattle.numbers.proofs.Words.{ℕ, suc, _+_, _-_, _%_, _≤_, _<_, arith, _≡_, refl, sym, ap, _∙_, Bool, true, false, cond, ltb, eqb, ltb-true, ltb-false, leb-true, le-leb, eqb-true, eqb-false, counted, entry, listed, total, gathered}
+use Rattle.numbers.proofs.Sums.{naturals}
+use Rattle.numbers.proofs.Ranges.{sum-more, total-long}
+use Rattle.numbers.proofs.Tests.{both, together}
+use Rattle.rules.specs.declared.dates.{Date.Date}
+use Rattle.rules.specs.Calendar.{rowOf, daysOfMonth, daysOfYear, dated, daysBeforeMonth, dayNumber, weekday, nextDay, nextWeekday, Gregorian}
+use Rattle.calendar_laws.proofs.Years.{months-twelve, month-between, year-more, row-again, four-hundred-years, years-again}
+
+-- what the calendar asks of a date
+pub record Dated (d : Date) : Type 0 where
+  pub year-least : 1 ≤ d .year
+  pub month-least : 1 ≤ d .month
+  pub month-most : d .month ≤ 12
+  pub day-least : 1 ≤ d .day
+  pub day-most : d .day ≤ daysOfMonth (d .year) (d .month)
+
+pub dated-told : (d : Date) → dated d ≡ true → Dated d
+unfolding dated
+dated-told d h =
+    let outer = both _ _ h in
+    let inner = both _ _ (outer .1) in
+    let month = both _ _ (inner .0) in
+    let day = both _ _ (inner .1) in
+    record {
+      year-least = leb-true _ _ (outer .0);
+      month-least = leb-true _ _ (month .0);
+      month-most = leb-true _ _ (month .1);
+      day-least = leb-true _ _ (day .0);
+      day-most = leb-true _ _ (day .1);
+    }
+
+pub told-dated : (d : Date) → Dated d → dated d ≡ true
+unfolding dated
+told-dated d h =
+    together (le-leb _ _ (h .year-least))
+    (together (together (le-leb _ _ (h .month-least)) (le-leb _ _ (h .month-most))) (together (le-leb _ _ (h .day-least)) (le-leb _ _ (h .day-most))))
+
+-- one month more, and all twelve
+month-more : (year month : ℕ) → 1 ≤ month → daysBeforeMonth year (month + 1) ≡ daysBeforeMonth year month + daysOfMonth year month
+unfolding daysBeforeMonth
+month-more year month h =
+    let one-more : month + 1 - 1 ≡ suc (month - 1) = omega arith in
+    ap (λ (n : ℕ). total (listed n (entry (rowOf year)))) one-more ∙ sum-more _+_ 0 naturals (month - 1) (entry (rowOf year))
+
+months-all : (year : ℕ) → daysBeforeMonth year 13 ≡ daysOfYear year
+unfolding daysBeforeMonth
+months-all year = total-long (rowOf year) 12 (months-twelve year)
+
+-- January has none before it
+january : (year : ℕ) → daysBeforeMonth year 1 ≡ 0
+unfolding daysBeforeMonth counted gathered
+january year = refl
+
+-- e is in the calendar and one day after d
+record Next (d e : Date) : Type 0 where
+  in-calendar : Dated e
+  number : dayNumber e ≡ dayNumber d + 1
+
+module _ (d : Date) (h : Dated d) where
+  abbrev last : ℕ
+  last = daysOfMonth (d .year) (d .month)
+
+  -- within the month
+  same-month : d .day < last → Next d (record { year = d .year; month = d .month; day = d .day + 1 })
+  unfolding dayNumber
+  same-month inside =
+      record {
+        in-calendar = record { year-least = h .year-least; month-least = h .month-least; month-most = h .month-most; day-least = omega arith; day-most = omega arith };
+        number = omega (arith, h .day-least);
+      }
+
+  -- from the last day of a month to the next month
+  next-month : last ≤ d .day → d .month < 12 → Next d (record { year = d .year; month = d .month + 1; day = 1 })
+  unfolding dayNumber
+  next-month ended inside =
+      let this : d .month + 1 - 1 ≡ d .month = omega arith in
+      record {
+        in-calendar =
+            record {
+              year-least = h .year-least;
+              month-least = omega arith;
+              month-most = omega arith;
+              day-least = omega arith;
+              day-most = rw this (month-between (d .year) (d .month) inside .0);
+            };
+        number = omega (arith, month-more (d .year) (d .month) (h .month-least), h .day-least, h .day-most);
+      }
+
+  -- from the last day of a year to the next year
+  next-year : last ≤ d .day → 12 ≤ d .month → Next d (record { year = d .year + 1; month = 1; day = 1 })
+  unfolding dayNumber
+  next-year ended december =
+      let twelve : d .month ≡ 12 = omega (arith, h .month-most) in
+      let months : daysBeforeMonth (d .year) (d .month) + last ≡ daysOfYear (d .year) =
+      sym (month-more (d .year) (d .month) (h .month-least)) ∙ ap (λ (m : ℕ). daysBeforeMonth (d .year) (m + 1)) twelve ∙ months-all (d .year) in
+      record {
+        in-calendar =
+            record { year-least = omega arith; month-least = omega arith; month-most = omega arith; day-least = omega arith; day-most = month-between (d .year + 1) 0 (omega arith) .0 };
+        number = omega (arith, january (d .year + 1), year-more (d .year) (h .year-least), months, h .day-least, h .day-most);
+      }
+
+  next : Next d (nextDay d)
+  unfolding nextDay
+  next = by-day (ltb (d .day) last) refl
+    where
+      by-month : (t : Bool) → ltb (d .month) 12 ≡ t → last ≤ d .day → Next d (cond t (record { year = d .year; month = d .month + 1; day = 1 }) (record { year = d .year + 1; month = 1; day = 1 }))
+      by-month true e ended = next-month ended (ltb-true _ _ e)
+      by-month false e ended = next-year ended (ltb-false _ _ e)
+
+      by-day : (t : Bool) → ltb (d .day) last ≡ t → Next d (cond t (record { year = d .year; month = d .month; day = d .day + 1 }) (cond (ltb (d .month) 12) (record { year = d .year; month = d .month + 1; day = 1 }) (record { year = d .year + 1; month = 1; day = 1 })))
+      by-day true e = same-month (ltb-true _ _ e)
+      by-day false e = by-month (ltb (d .month) 12) refl (ltb-false _ _ e)
+
+-- the weekday of the next number is the next weekday
+weekday-next : (n : ℕ) → (n + 1) % 7 + 1 ≡ nextWeekday (n % 7 + 1)
+unfolding nextWeekday
+weekday-next n = by-sunday (eqb (n % 7 + 1) 7) refl
+  where
+    by-sunday : (t : Bool) → eqb (n % 7 + 1) 7 ≡ t → (n + 1) % 7 + 1 ≡ cond t 1 (n % 7 + 1 + 1)
+    by-sunday true e = let sunday = eqb-true (n % 7 + 1) 7 e in omega (arith, sunday)
+    by-sunday false e = let other = eqb-false (n % 7 + 1) 7 e in omega (arith, other)
+
+-- 400 years later the same date has the same weekday
+weekday-again : (year month day : ℕ) → 1 ≤ year → weekday (record { year = year + 400; month = month; day = day }) ≡ weekday (record { year = year; month = month; day = day })
+unfolding weekday dayNumber daysBeforeMonth
+weekday-again year month day h = rw (row-again year, years-again year h) (omega arith)
+
+-- the calendar is right beyond the table (02, d, 2)
+pub gregorian : Gregorian
+unfolding weekday
+gregorian =
+    record {
+      next-dated = λ d h. told-dated (nextDay d) (next d (dated-told d h) .in-calendar);
+      next-number = λ d h. next d (dated-told d h) .number;
+      next-weekday = λ d h. ap (λ (n : ℕ). n % 7 + 1) (next d (dated-told d h) .number) ∙ weekday-next (dayNumber d);
+      four-centuries = four-hundred-years;
+      comes-again = weekday-again;
+    }
