@@ -17,7 +17,7 @@ module _ (f : ℕ → List ℕ) where
   appended (x ∷ xs) ys = rw (appended xs ys, append-assoc)
 
   -- and one more
-  texts-more : (n : ℕ) → texts (suc n) ≡ texts n ++ f n
+  pub texts-more : (n : ℕ) → texts (suc n) ≡ texts n ++ f n
   unfolding flatMap
   texts-more n = ap (flatMap f) (counted-more 0 n) ∙ appended (counted 0 n) ((0 + n) ∷ []) ∙ rw (append-nil, zero-add)
 
