@@ -11,6 +11,7 @@ use wheat_delivery::trial::hand::worked;
 const LISTING: &str = env!("CARGO_BIN_EXE_listing");
 const COMPARE: &str = env!("CARGO_BIN_EXE_compare");
 const CASES: &str = env!("CARGO_BIN_EXE_cases");
+const TENTHS: &str = env!("CARGO_BIN_EXE_tenths");
 const GENERATE: &str = env!("CARGO_BIN_EXE_generate");
 const CHECK: &str = env!("CARGO_BIN_EXE_check");
 
@@ -137,6 +138,22 @@ fn the_claims_without_a_star_hold_of_this_program_and_not_of_another() {
     assert!(text.starts_with(first), "{text}");
     assert!(!output.status.success());
     assert!(!cases("./no-such-program", "missing").status.success());
+}
+
+#[test]
+fn another_program_does_not_print_the_tenths() {
+    let tenths = |program: &str, name: &str| {
+        let arguments = [program.into(), folder(name).into_os_string()];
+        Command::new(TENTHS).args(arguments).output().unwrap()
+    };
+    let output = tenths("/bin/cat", "no-tenths");
+    let text = String::from_utf8(output.stdout).unwrap();
+    assert!(
+        text.starts_with("the tenths do not agree: row 1: "),
+        "{text}"
+    );
+    assert!(!output.status.success());
+    assert!(!tenths("./no-such-program", "no-program").status.success());
 }
 
 #[test]
