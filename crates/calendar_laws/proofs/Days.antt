@@ -1,10 +1,11 @@
 -- The day after a date has the next number, whatever month, year or leap day lies between.
-use Rattle.numbers.proofs.Words.{ℕ, suc, _+_, _-_, _%_, _≤_, _<_, arith, _≡_, refl, sym, ap, _∙_, Bool, true, false, cond, ltb, eqb, ltb-true, ltb-false, leb-true, le-leb, eqb-true, eqb-false, counted, entry, listed, total, gathered}
+use Rattle.numbers.proofs.Words.{ℕ, suc, _+_, _-_, _%_, _≤_, _<_, arith, _≡_, refl, sym, ap, _∙_, Bool, true, false, cond, ltb, eqb, ltb-true, ltb-false, leb-true, le-leb, eqb-true, eqb-false, counted, entry, gathered}
 use Rattle.numbers.proofs.Sums.{naturals}
 use Rattle.numbers.proofs.Ranges.{sum-more, total-long}
 use Rattle.numbers.proofs.Tests.{both, together}
 use Rattle.rules.specs.declared.dates.{Date.Date}
 use Rattle.rules.specs.Calendar.{rowOf, daysOfMonth, daysOfYear, dated, daysBeforeMonth, dayNumber, weekday, nextDay, nextWeekday, Gregorian}
+use Rattle.calendar_laws.proofs.Months.{firstMonths}
 use Rattle.calendar_laws.proofs.Years.{months-twelve, month-between, year-more, row-again, four-hundred-years, years-again}
 
 -- what the calendar asks of a date
@@ -41,7 +42,7 @@ month-more : (year month : ℕ) → 1 ≤ month → daysBeforeMonth year (month 
 unfolding daysBeforeMonth
 month-more year month h =
     let one-more : month + 1 - 1 ≡ suc (month - 1) = omega arith in
-    ap (λ (n : ℕ). total (listed n (entry (rowOf year)))) one-more ∙ sum-more _+_ 0 naturals (month - 1) (entry (rowOf year))
+    ap (firstMonths year) one-more ∙ sum-more _+_ 0 naturals (month - 1) (entry (rowOf year))
 
 months-all : (year : ℕ) → daysBeforeMonth year 13 ≡ daysOfYear year
 unfolding daysBeforeMonth
@@ -61,8 +62,18 @@ module _ (d : Date) (h : Dated d) where
   abbrev last : ℕ
   last = daysOfMonth (d .year) (d .month)
 
+  -- the three days that may come next
+  abbrev dayOn : Date
+  dayOn = record { year = d .year; month = d .month; day = d .day + 1 }
+
+  abbrev monthOn : Date
+  monthOn = record { year = d .year; month = d .month + 1; day = 1 }
+
+  abbrev yearOn : Date
+  yearOn = record { year = d .year + 1; month = 1; day = 1 }
+
   -- within the month
-  same-month : d .day < last → Next d (record { year = d .year; month = d .month; day = d .day + 1 })
+  same-month : d .day < last → Next d dayOn
   unfolding dayNumber
   same-month inside =
       record {
@@ -71,7 +82,7 @@ module _ (d : Date) (h : Dated d) where
       }
 
   -- from the last day of a month to the next month
-  next-month : last ≤ d .day → d .month < 12 → Next d (record { year = d .year; month = d .month + 1; day = 1 })
+  next-month : last ≤ d .day → d .month < 12 → Next d monthOn
   unfolding dayNumber
   next-month ended inside =
       let this : d .month + 1 - 1 ≡ d .month = omega arith in
@@ -88,7 +99,7 @@ module _ (d : Date) (h : Dated d) where
       }
 
   -- from the last day of a year to the next year
-  next-year : last ≤ d .day → 12 ≤ d .month → Next d (record { year = d .year + 1; month = 1; day = 1 })
+  next-year : last ≤ d .day → 12 ≤ d .month → Next d yearOn
   unfolding dayNumber
   next-year ended december =
       let twelve : d .month ≡ 12 = omega (arith, h .month-most) in
@@ -104,11 +115,11 @@ module _ (d : Date) (h : Dated d) where
   unfolding nextDay
   next = by-day (ltb (d .day) last) refl
     where
-      by-month : (t : Bool) → ltb (d .month) 12 ≡ t → last ≤ d .day → Next d (cond t (record { year = d .year; month = d .month + 1; day = 1 }) (record { year = d .year + 1; month = 1; day = 1 }))
+      by-month : (t : Bool) → ltb (d .month) 12 ≡ t → last ≤ d .day → Next d (cond t monthOn yearOn)
       by-month true e ended = next-month ended (ltb-true _ _ e)
       by-month false e ended = next-year ended (ltb-false _ _ e)
 
-      by-day : (t : Bool) → ltb (d .day) last ≡ t → Next d (cond t (record { year = d .year; month = d .month; day = d .day + 1 }) (cond (ltb (d .month) 12) (record { year = d .year; month = d .month + 1; day = 1 }) (record { year = d .year + 1; month = 1; day = 1 })))
+      by-day : (t : Bool) → ltb (d .day) last ≡ t → Next d (cond t dayOn (cond (ltb (d .month) 12) monthOn yearOn))
       by-day true e = same-month (ltb-true _ _ e)
       by-day false e = by-month (ltb (d .month) 12) refl (ltb-false _ _ e)
 

@@ -20,7 +20,7 @@ past-december year (suc n) =
     let nothing = getD-past (rowOf year) (12 + n) 0 (omega (arith, months-twelve year)) in
     omega (arith, more, nothing, past-december year n)
 
--- no months have more than 31 days each, and no year more than twelve
+-- so many months have at most 31 days each; those before any month, at most 372 in all
 few-months : (year n : ℕ) → n ≤ 12 → firstMonths year n ≤ 31 * n
 unfolding counted gathered
 few-months year zero h = omega arith

@@ -39,7 +39,7 @@ pub months-twelve : (year : ℕ) → length (rowOf year) ≡ 12
 unfolding rowOf
 months-twelve year = row-months (leap year)
 
-pub year-days : (year : ℕ) → daysOfYear year ≡ 365 + one (leap year)
+year-days : (year : ℕ) → daysOfYear year ≡ 365 + one (leap year)
 unfolding rowOf
 year-days year = row-days (leap year)
 
