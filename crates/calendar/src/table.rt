@@ -51,14 +51,14 @@ pub fn tenths() -> [[u8; MONTHS]; TENTHS_YEARS]
 pub fn tenth(year: u32, month: u32) -> u8
     ensures { λ r. ⌜ r ≡ Calendar.tenth year month ⌝ }
 {
-    let months = month as usize;
-    let in_year = (TENTHS_FROM <= year) & (year <= TENTHS_TO);
-    let in_table = in_year & ((1 <= months) & (months <= MONTHS));
+    let from_one = month as usize;
+    let in_years = (TENTHS_FROM <= year) & (year <= TENTHS_TO);
+    let in_table = in_years & ((1 <= from_one) & (from_one <= MONTHS));
     if !in_table {
         return 0;
     }
     let row = (year - TENTHS_FROM) as usize;
-    let column = months - 1;
+    let column = from_one - 1;
     let table = tenths();
     table[row][column]
 }

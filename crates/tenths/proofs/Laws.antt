@@ -1,5 +1,5 @@
 -- The rows of the table as the texts that are written one after the other, and how long they are.
-use Rattle.numbers.proofs.Words.{ℕ, zero, suc, _+_, _*_, arith, _≡_, refl, sym, ap, ap₂, subst, _∙_, List, [], _∷_, _++_, map, map-append, flatMap, length, length-append, drop-of-length-le, append-nil, counted, over}
+use Rattle.numbers.proofs.Words.{ℕ, zero, suc, _+_, arith, _≡_, refl, sym, ap, ap₂, subst, _∙_, List, [], _∷_, _++_, map, map-append, flatMap, length, length-append, drop-of-length-le, append-nil, counted, over}
 use Rattle.numbers.specs.Text.{decimal}
 use Rattle.numbers.proofs.Lists.{flatMap-last}
 use Rattle.numbers.proofs.Ranges.{counted-more}
@@ -9,7 +9,7 @@ use Rattle.rules.specs.Listing.{row}
 use Rattle.listing.specs.{Columns.field, Laid.Laid}
 use Rattle.listing.proofs.Laws.Digits.{digits-last}
 use Rattle.listing.proofs.Laws.Parts.{row-joined}
-use Rattle.listing.proofs.Laws.Rows.{texts, texts-more}
+use Rattle.listing.proofs.Laws.Rows.{texts, texts-more, texts-length}
 use Rattle.tenths.specs.Texts.{yearRow, numberEnd, numberField}
 
 -- a year's row is its numbers, each with what comes after it
@@ -37,12 +37,6 @@ rows-from text numbers first (suc n) =
 pub table-years : tableRows tenths ≡ texts (λ (i : ℕ). yearRow (2021 + i)) 30
 unfolding tableRows tenths
 table-years = rows-from (λ (numbers : List ℕ). row (map decimal numbers)) tenthsOf 2021 30
-
--- texts of the same length
-texts-length : (f : ℕ → List ℕ) (m n : ℕ) → ((i : ℕ) → length (f i) ≡ m) → length (texts f n) ≡ n * m
-unfolding counted flatMap
-texts-length f m zero h = omega arith
-texts-length f m (suc n) h = omega (arith, ap length (texts-more f n), length-append (texts f n) (f n), h n, texts-length f m n h)
 
 -- a weekday has one digit: so a number takes two bytes, a row 24, the table 720
 pub digit-length : {w : ℕ} (d : Date) → w ≡ weekday d → length (decimal w) ≡ 1

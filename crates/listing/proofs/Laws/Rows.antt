@@ -46,6 +46,12 @@ unfolding flatMap counted
 texts-most f m zero h = omega arith
 texts-most f m (suc n) h = omega (arith, long-more f n, h n (omega arith), texts-most f m n (λ i k. h i (omega arith)))
 
+-- n texts of m bytes
+pub texts-length : (f : ℕ → List ℕ) (m n : ℕ) → ((i : ℕ) → length (f i) ≡ m) → length (texts f n) ≡ n * m
+unfolding flatMap counted
+texts-length f m zero h = omega arith
+texts-length f m (suc n) h = omega (arith, long-more f n, h n, texts-length f m n h)
+
 -- what a loop keeps: i of the n texts stand, from a place of `was` on, and there is room for all
 pub record Rows (f : ℕ → List ℕ) (n : ℕ) (was : List ℕ) (at : ℕ) (now : List ℕ) (next i : ℕ) : Type 0 where
   pub place : i ≤ n
