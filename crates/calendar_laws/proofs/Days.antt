@@ -38,13 +38,13 @@ told-dated d h =
     (together (together (le-leb _ _ (h .month-least)) (le-leb _ _ (h .month-most))) (together (le-leb _ _ (h .day-least)) (le-leb _ _ (h .day-most))))
 
 -- one month more, and all twelve
-month-more : (year month : ℕ) → 1 ≤ month → daysBeforeMonth year (month + 1) ≡ daysBeforeMonth year month + daysOfMonth year month
+pub month-more : (year month : ℕ) → 1 ≤ month → daysBeforeMonth year (month + 1) ≡ daysBeforeMonth year month + daysOfMonth year month
 unfolding daysBeforeMonth
 month-more year month h =
     let one-more : month + 1 - 1 ≡ suc (month - 1) = omega arith in
     ap (firstMonths year) one-more ∙ sum-more _+_ 0 naturals (month - 1) (entry (rowOf year))
 
-months-all : (year : ℕ) → daysBeforeMonth year 13 ≡ daysOfYear year
+pub months-all : (year : ℕ) → daysBeforeMonth year 13 ≡ daysOfYear year
 unfolding daysBeforeMonth
 months-all year = total-long (rowOf year) 12 (months-twelve year)
 
@@ -93,7 +93,7 @@ module _ (d : Date) (h : Dated d) where
               month-least = omega arith;
               month-most = omega arith;
               day-least = omega arith;
-              day-most = rw this (month-between (d .year) (d .month) inside .0);
+              day-most = rw this (omega (arith, month-between (d .year) (d .month) inside));
             };
         number = omega (arith, month-more (d .year) (d .month) (h .month-least), h .day-least, h .day-most);
       }
@@ -107,7 +107,7 @@ module _ (d : Date) (h : Dated d) where
       sym (month-more (d .year) (d .month) (h .month-least)) ∙ ap (λ (m : ℕ). daysBeforeMonth (d .year) (m + 1)) twelve ∙ months-all (d .year) in
       record {
         in-calendar =
-            record { year-least = omega arith; month-least = omega arith; month-most = omega arith; day-least = omega arith; day-most = month-between (d .year + 1) 0 (omega arith) .0 };
+            record { year-least = omega arith; month-least = omega arith; month-most = omega arith; day-least = omega arith; day-most = omega (arith, month-between (d .year + 1) 0 (omega arith)) };
         number = omega (arith, january (d .year + 1), year-more (d .year) (h .year-least), months, h .day-least, h .day-most);
       }
 

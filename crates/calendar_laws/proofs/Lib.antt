@@ -1,4 +1,6 @@
 pub mod Years
 pub mod Months
 pub mod Days
+pub mod Order
+pub mod Search
 pub mod Tenths

@@ -5,11 +5,11 @@ use lib.Arith.{digits-div, digits-mod}
 use Rattle.numbers.proofs.Tests.{both, below-or-not}
 use Rattle.numbers.proofs.Lists.{every-at}
 use Rattle.numbers.proofs.Sums.{naturals}
-use Rattle.numbers.proofs.Ranges.{sum-more}
+use Rattle.numbers.proofs.Ranges.{sum-more, sum-moved}
 use Rattle.numbers.proofs.Counts.{one}
 use Rattle.rules.specs.Calendar.{leap, monthRows, rowOf, daysOfYear, daysBeforeYear}
 
--- a row by the leap rule: its twelve months, its days in all, and each month from 1 to 31
+-- a row by the leap rule: its twelve months, its days in all, and each month from 28 to 31
 abbrev row : Bool → List ℕ
 row long = getD monthRows (cond long 1 0) []
 
@@ -23,27 +23,27 @@ unfolding monthRows gathered
 row-days true = refl
 row-days false = refl
 
-row-limits : (long : Bool) → every (between 1 31) (row long) ≡ true
+row-limits : (long : Bool) → every (between 28 31) (row long) ≡ true
 unfolding monthRows every
 row-limits true = refl
 row-limits false = refl
 
-row-between : (long : Bool) (k : ℕ) → k < 12 → (1 ≤ entry (row long) k) × (entry (row long) k ≤ 31)
+row-between : (long : Bool) (k : ℕ) → k < 12 → (28 ≤ entry (row long) k) × (entry (row long) k ≤ 31)
 row-between long k h =
     let n = entry (row long) k in
-    let tests = both (leb 1 n) (leb n 31) (every-at (between 1 31) (row long) k 0 (row-limits long) (omega (arith, row-months long))) in
-    (leb-true 1 n (tests .0), leb-true n 31 (tests .1))
+    let tests = both (leb 28 n) (leb n 31) (every-at (between 28 31) (row long) k 0 (row-limits long) (omega (arith, row-months long))) in
+    (leb-true 28 n (tests .0), leb-true n 31 (tests .1))
 
 -- the same of a year
 pub months-twelve : (year : ℕ) → length (rowOf year) ≡ 12
 unfolding rowOf
 months-twelve year = row-months (leap year)
 
-year-days : (year : ℕ) → daysOfYear year ≡ 365 + one (leap year)
+pub year-days : (year : ℕ) → daysOfYear year ≡ 365 + one (leap year)
 unfolding rowOf
 year-days year = row-days (leap year)
 
-pub month-between : (year k : ℕ) → k < 12 → (1 ≤ entry (rowOf year) k) × (entry (rowOf year) k ≤ 31)
+pub month-between : (year k : ℕ) → k < 12 → (28 ≤ entry (rowOf year) k) × (entry (rowOf year) k ≤ 31)
 unfolding rowOf
 month-between year = row-between (leap year)
 
@@ -125,23 +125,13 @@ row-again year = ap row (leap-again year)
 abbrev yearsFrom : ℕ → ℕ → ℕ
 yearsFrom m year = total (listed m (λ (after : ℕ). daysOfYear (year + after)))
 
--- m years from a year on and m from the next one on differ by the first and the last
-years-moved : (m year : ℕ) → yearsFrom m (suc year) + daysOfYear year ≡ yearsFrom m year + daysOfYear (year + m)
-unfolding counted gathered
-years-moved zero year = ap (λ (y : ℕ). 0 + daysOfYear y) (sym (add-zero year))
-years-moved (suc m) year =
-    let moved = sum-more _+_ 0 naturals m (λ (after : ℕ). daysOfYear (suc year + after)) in
-    let here = sum-more _+_ 0 naturals m (λ (after : ℕ). daysOfYear (year + after)) in
-    let last : daysOfYear (suc year + m) ≡ daysOfYear (year + suc m) = ap daysOfYear (omega arith) in
-    omega (arith, moved, here, last, years-moved m year)
-
 from-nought : yearsFrom 400 0 ≡ 146_097
 unfolding leap monthRows rowOf counted gathered
 from-nought = refl
 
 pub four-hundred-years : (year : ℕ) → yearsFrom 400 year ≡ 146_097
 four-hundred-years zero = from-nought
-four-hundred-years (suc year) = omega (arith, years-moved 400 year, ap total (row-again year), four-hundred-years year)
+four-hundred-years (suc year) = omega (arith, sum-moved 400 year daysOfYear, ap total (row-again year), four-hundred-years year)
 
 -- the first n years and m more
 years-on : (n m : ℕ) → firstYears (n + m) ≡ firstYears n + yearsFrom m (suc n)

@@ -1,5 +1,5 @@
 -- How many of the numbers below n pass a test, and at how many of them more than 0 is read.
-use Rattle.numbers.proofs.Words.{ℕ, zero, suc, _+_, _-_, _≤_, _<_, min, not-suc-le-zero, arith, _≡_, refl, sym, ap, _∙_, Bool, true, false, cond, List, ⊎-elim, eqb, ltb, length, getD, set, length-set, ltb-true, lt-ltb, le-ltb, eqb-true, _and_, counted, listed, entry, gathered, total, many}
+use Rattle.numbers.proofs.Words.{ℕ, zero, suc, _+_, _-_, _≤_, _<_, min, not-suc-le-zero, arith, _≡_, refl, sym, ap, _∙_, Bool, true, false, cond, _||_, false≢true, List, [], _∷_, ⊎-elim, eqb, ltb, length, getD, set, length-set, ltb-true, lt-ltb, le-ltb, eqb-true, _and_, some, counted, listed, entry, gathered, total, many}
 use Rattle.numbers.proofs.Sums.{naturals}
 use Rattle.numbers.proofs.Ranges.{sum-more, sum-same, sum-nothing, sum-both, sum-apart, sum-changed, sum-classes, sum-within, sum-empty}
 use Rattle.numbers.proofs.Entries.{entry-place}
@@ -62,6 +62,38 @@ module _ (n : ℕ) (s t : ℕ → Bool) where
 pub many-nowhere : (n : ℕ) (s : ℕ → Bool) → ((i : ℕ) → i < n → s i ≡ true → ⊥) → many n s ≡ 0
 unfolding many
 many-nowhere n s never = sum-nothing _+_ 0 naturals n _ (λ i h. under-none (s i) 1 (λ e. absurd (never i h e)))
+
+-- one of two tests
+many-either : (n : ℕ) (s t : ℕ → Bool) → many n (λ (i : ℕ). s i || t i) ≤ many n s + many n t
+unfolding many
+many-either n s t =
+    let each = sum-within n (λ (i : ℕ). one (s i || t i)) (λ (i : ℕ). one (s i) + one (t i)) (λ i h. either (s i) (t i)) in
+    omega (arith, each, sum-both _+_ 0 naturals n (λ (i : ℕ). one (s i)) (λ (i : ℕ). one (t i)))
+  where
+    either : (a b : Bool) → one (a || b) ≤ one a + one b
+    either true b = omega arith
+    either false b = omega arith
+
+-- readings that are all different: at most one is a given number, and at most as many as a list has entries are among them
+many-once : (n : ℕ) (f : ℕ → ℕ) (c : ℕ) → ((i j : ℕ) → i < j → j < n → f i ≡ f j → ⊥) → many n (λ (i : ℕ). eqb (f i) c) ≤ 1
+unfolding many counted gathered
+many-once zero f c different = omega arith
+many-once (suc n) f c different = go (eqb (f n) c) refl (many-once n f c (λ i j h k. different i j h (omega arith)))
+  where
+    more : many (suc n) (λ (i : ℕ). eqb (f i) c) ≡ many n (λ (i : ℕ). eqb (f i) c) + one (eqb (f n) c)
+    more = many-more n (λ (i : ℕ). eqb (f i) c)
+
+    go : (t : Bool) → eqb (f n) c ≡ t → many n (λ (i : ℕ). eqb (f i) c) ≤ 1 → many (suc n) (λ (i : ℕ). eqb (f i) c) ≤ 1
+    go true e before =
+        let none = many-nowhere n (λ (i : ℕ). eqb (f i) c) (λ i h k. different i n h (omega arith) (eqb-true (f i) c k ∙ sym (eqb-true (f n) c e))) in
+        omega (arith, more, none, ap one e)
+    go false e before = omega (arith, more, ap one e, before)
+
+pub many-among : (n : ℕ) (f : ℕ → ℕ) → ((i j : ℕ) → i < j → j < n → f i ≡ f j → ⊥) → (xs : List ℕ) → many n (λ (i : ℕ). some (eqb (f i)) xs) ≤ length xs
+unfolding some
+many-among n f different [] = omega (arith, many-nowhere n (λ (i : ℕ). false) (λ i h e. absurd (false≢true e)))
+many-among n f different (x ∷ xs) =
+    omega (arith, many-either n (λ (i : ℕ). eqb (f i) x) (λ (i : ℕ). some (eqb (f i)) xs), many-once n f x different, many-among n f different xs)
 
 -- by classes
 pub many-classes : (n m : ℕ) (key : ℕ → ℕ) (s : ℕ → Bool) → ((i : ℕ) → i < n → key i < m) → total (listed m (λ (c : ℕ). many n (λ (i : ℕ). eqb (key i) c and s i))) ≡ many n s

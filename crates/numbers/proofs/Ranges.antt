@@ -223,6 +223,16 @@ sum-within zero f g le = omega arith
 sum-within (suc n) f g le =
     omega (arith, sum-more _+_ 0 naturals n f, sum-more _+_ 0 naturals n g, sum-within n f g (λ i h. le i (omega arith)), le n (omega arith))
 
+-- what is read at m numbers in a row: from one number on and from the next, the sums differ by the first and the last
+pub sum-moved : (m n : ℕ) (f : ℕ → ℕ) → total (listed m (λ (i : ℕ). f (suc n + i))) + f n ≡ total (listed m (λ (i : ℕ). f (n + i))) + f (n + m)
+unfolding counted gathered
+sum-moved zero n f = ap (λ (k : ℕ). 0 + f k) (sym (add-zero n))
+sum-moved (suc m) n f =
+    let moved = sum-more _+_ 0 naturals m (λ (i : ℕ). f (suc n + i)) in
+    let here = sum-more _+_ 0 naturals m (λ (i : ℕ). f (n + i)) in
+    let last : f (suc n + m) ≡ f (n + suc m) = ap f (omega arith) in
+    omega (arith, moved, here, last, sum-moved m n f)
+
 -- one of them is at most the sum
 pub sum-part : (n : ℕ) (f : ℕ → ℕ) (j : ℕ) → j < n → f j ≤ total (listed n f)
 unfolding counted gathered

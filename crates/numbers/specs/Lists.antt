@@ -31,6 +31,12 @@ unfoldable pub Every : {A : Type 0} → (A → Type 0) → List A → Type 0
 Every P [] = Unit {0}
 Every P (x ∷ xs) = P x × Every P xs
 
+-- each number is below the next one
+unfoldable pub ascending : List ℕ → Bool
+ascending [] = true
+ascending (n ∷ []) = true
+ascending (n ∷ next ∷ ns) = ltb n next && ascending (next ∷ ns)
+
 -- the numbers from `first` on, n of them
 unfoldable pub counted : ℕ → ℕ → List ℕ
 counted first zero = []
@@ -83,5 +89,5 @@ largest earlier xs = largestFrom earlier xs 0 0 xs
 
 -- every definition above, unfolded at once
 unfoldable pub computed : Unit {0}
-unfolding every some apart Every counted put placed ordered largestFrom largest
+unfolding every some apart Every ascending counted put placed ordered largestFrom largest
 computed = tt
