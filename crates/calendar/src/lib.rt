@@ -4,6 +4,7 @@ ghost use Rattle.rules.specs.Calendar;
 use rules::dates::Date;
 use rules::dates::MONTHS;
 
+pub mod dates;
 pub mod table;
 
 // The days of the months, a row for common years and one for leap years (02, d, 4; 01, Forms, 1).

@@ -1,8 +1,8 @@
 -- The day after a date has the next number, whatever month, year or leap day lies between.
-use Rattle.numbers.proofs.Words.{ℕ, suc, _+_, _-_, _%_, _≤_, _<_, arith, _≡_, refl, sym, ap, _∙_, Bool, true, false, cond, ltb, eqb, ltb-true, ltb-false, leb-true, le-leb, eqb-true, eqb-false, counted, entry, gathered}
+use Rattle.numbers.proofs.Words.{ℕ, suc, _+_, _-_, _%_, _≤_, _<_, arith, _≡_, refl, sym, ap, subst⁻¹, _∙_, Bool, true, false, cond, ⊎-elim, eqb, lt-ltb, le-ltb, leb-true, le-leb, eqb-true, eqb-false, counted, entry, gathered}
 use Rattle.numbers.proofs.Sums.{naturals}
 use Rattle.numbers.proofs.Ranges.{sum-more, total-long}
-use Rattle.numbers.proofs.Tests.{both, together}
+use Rattle.numbers.proofs.Tests.{both, together, below-or-not}
 use Rattle.rules.specs.declared.dates.{Date.Date}
 use Rattle.rules.specs.Calendar.{rowOf, daysOfMonth, daysOfYear, dated, daysBeforeMonth, dayNumber, weekday, nextDay, nextWeekday, Gregorian}
 use Rattle.calendar_laws.proofs.Months.{firstMonths}
@@ -58,11 +58,11 @@ record Next (d e : Date) : Type 0 where
   in-calendar : Dated e
   number : dayNumber e ≡ dayNumber d + 1
 
-module _ (d : Date) (h : Dated d) where
+module _ (d : Date) where
   abbrev last : ℕ
   last = daysOfMonth (d .year) (d .month)
 
-  -- the three days that may come next
+  -- the three days that may come next, and when each does
   abbrev dayOn : Date
   dayOn = record { year = d .year; month = d .month; day = d .day + 1 }
 
@@ -72,8 +72,21 @@ module _ (d : Date) (h : Dated d) where
   abbrev yearOn : Date
   yearOn = record { year = d .year + 1; month = 1; day = 1 }
 
+  pub day-follows : d .day < last → nextDay d ≡ dayOn
+  unfolding nextDay
+  day-follows inside = simp (lt-ltb (d .day) last inside)
+
+  pub month-follows : last ≤ d .day → d .month < 12 → nextDay d ≡ monthOn
+  unfolding nextDay
+  month-follows ended inside = simp (le-ltb (d .day) last ended, lt-ltb (d .month) 12 inside)
+
+  pub year-follows : last ≤ d .day → 12 ≤ d .month → nextDay d ≡ yearOn
+  unfolding nextDay
+  year-follows ended december = simp (le-ltb (d .day) last ended, le-ltb (d .month) 12 december)
+
+module _ (d : Date) (h : Dated d) where
   -- within the month
-  same-month : d .day < last → Next d dayOn
+  same-month : d .day < last d → Next d (dayOn d)
   unfolding dayNumber
   same-month inside =
       record {
@@ -82,7 +95,7 @@ module _ (d : Date) (h : Dated d) where
       }
 
   -- from the last day of a month to the next month
-  next-month : last ≤ d .day → d .month < 12 → Next d monthOn
+  next-month : last d ≤ d .day → d .month < 12 → Next d (monthOn d)
   unfolding dayNumber
   next-month ended inside =
       let this : d .month + 1 - 1 ≡ d .month = omega arith in
@@ -99,11 +112,11 @@ module _ (d : Date) (h : Dated d) where
       }
 
   -- from the last day of a year to the next year
-  next-year : last ≤ d .day → 12 ≤ d .month → Next d yearOn
+  next-year : last d ≤ d .day → 12 ≤ d .month → Next d (yearOn d)
   unfolding dayNumber
   next-year ended december =
       let twelve : d .month ≡ 12 = omega (arith, h .month-most) in
-      let months : daysBeforeMonth (d .year) (d .month) + last ≡ daysOfYear (d .year) =
+      let months : daysBeforeMonth (d .year) (d .month) + last d ≡ daysOfYear (d .year) =
       sym (month-more (d .year) (d .month) (h .month-least)) ∙ ap (λ (m : ℕ). daysBeforeMonth (d .year) (m + 1)) twelve ∙ months-all (d .year) in
       record {
         in-calendar =
@@ -112,16 +125,13 @@ module _ (d : Date) (h : Dated d) where
       }
 
   next : Next d (nextDay d)
-  unfolding nextDay
-  next = by-day (ltb (d .day) last) refl
-    where
-      by-month : (t : Bool) → ltb (d .month) 12 ≡ t → last ≤ d .day → Next d (cond t monthOn yearOn)
-      by-month true e ended = next-month ended (ltb-true _ _ e)
-      by-month false e ended = next-year ended (ltb-false _ _ e)
-
-      by-day : (t : Bool) → ltb (d .day) last ≡ t → Next d (cond t dayOn (cond (ltb (d .month) 12) monthOn yearOn))
-      by-day true e = same-month (ltb-true _ _ e)
-      by-day false e = by-month (ltb (d .month) 12) refl (ltb-false _ _ e)
+  next =
+      ⊎-elim (λ (inside : d .day < last d). subst⁻¹ (Next d) (day-follows d inside) (same-month inside))
+      (λ (ended : last d ≤ d .day).
+      ⊎-elim (λ (inside : d .month < 12). subst⁻¹ (Next d) (month-follows d ended inside) (next-month ended inside))
+      (λ (december : 12 ≤ d .month). subst⁻¹ (Next d) (year-follows d ended december) (next-year ended december))
+      (below-or-not (d .month) 12))
+      (below-or-not (d .day) (last d))
 
 -- the weekday of the next number is the next weekday
 weekday-next : (n : ℕ) → (n + 1) % 7 + 1 ≡ nextWeekday (n % 7 + 1)

@@ -28,7 +28,7 @@ months-rise year = rises (daysBeforeMonth year) 1 (λ month h. omega (arith, mon
 
 module _ (d : Date) (h : Dated d) where
   -- a month has at most 31 days
-  day-limit : d .day ≤ 31
+  pub day-limit : d .day ≤ 31
   day-limit = omega (arith, h .month-least, h .month-most, h .day-most, month-between (d .year) (d .month - 1) (omega (arith, h .month-least, h .month-most)))
 
   -- a date lies before the next month and before the next year

@@ -1,12 +1,12 @@
 -- The search for the last trading day: what it finds, and that thirteen weeks are enough for 64 closed dates.
-use Rattle.numbers.proofs.Words.{ℕ, zero, suc, _+_, _-_, _%_, _≤_, _<_, add-zero, arith, _≡_, refl, sym, ap, ap₂, _∙_, Bool, true, false, not, cond, _||_, true≢false, false≢true, lt-ltb, List, [], _∷_, length, not-suc-le-zero, ascending, ⊎-elim, leb, ltb, ltb-true, ltb-false, leb-true, some, every, eqb, counted, gathered, many, not-true, not-false, between}
+use Rattle.numbers.proofs.Words.{ℕ, zero, suc, _+_, _-_, _%_, _≤_, _<_, add-zero, arith, _≡_, refl, sym, ap, ap₂, _∙_, Bool, true, false, not, cond, _||_, true≢false, false≢true, lt-ltb, List, [], _∷_, length, not-suc-le-zero, ascending, ⊎-elim, leb, _and_, ltb, ltb-true, ltb-false, leb-true, some, every, eqb, counted, gathered, many, not-true, not-false, between}
 use Rattle.numbers.proofs.Tests.{both, below-or-not, or-left, or-right}
 use Rattle.numbers.proofs.Ranges.{sum-moved}
 use Rattle.numbers.proofs.Counts.{one, many-same, many-within, many-among}
 use Rattle.rules.specs.declared.dates.{Date.Date}
 use Rattle.rules.specs.Calls.{_if_, first}
 use Rattle.rules.specs.Calendar.{dated, daysBeforeYear, dayNumber, weekday, nextDay, tenthOf, Gregorian}
-use Rattle.rules.specs.LastTradingDay.{numberOfDate, dateOfNumber, weekend, closedOn, trading, firstTrading, lastDay, monthGood, closedGood, lastDayNumber, daysAfter, IsLastDay, LastDayShown}
+use Rattle.rules.specs.LastTradingDay.{numberOfDate, dateOfNumber, weekend, closedOn, trading, firstTrading, lastDay, monthGood, closedGood, closedDatesGood, lastDayNumber, daysAfter, IsLastDay, LastDayShown}
 use Rattle.calendar_laws.proofs.Years.{year-days, month-between, year-more}
 use Rattle.calendar_laws.proofs.Days.{Dated, dated-told, told-dated, gregorian}
 use Rattle.calendar_laws.proofs.Tenths.{within-table}
@@ -62,7 +62,7 @@ thirteen-weeks d h =
     ∙ weeks (dayNumber d)
 
 -- the later of two days has the higher number
-after-apart : (d : Date) → dated d ≡ true → (i j : ℕ) → i < j → numberOfDate (daysAfter i d) < numberOfDate (daysAfter j d)
+pub after-apart : (d : Date) → dated d ≡ true → (i j : ℕ) → i < j → numberOfDate (daysAfter i d) < numberOfDate (daysAfter j d)
 after-apart d h i j sooner =
     let earlier = daysAfter i d in
     let later = daysAfter j d in
@@ -124,28 +124,32 @@ pub record Accepted (year month : ℕ) (closed : List ℕ) : Type 0 where
 
 pub accepted : (year month : ℕ) (closed : List ℕ) → lastDayNumber year month closed ≡ 0 → Accepted year month closed
 unfolding lastDayNumber first
-accepted year month closed h = told (monthGood year month) (ltb 64 (length closed)) (every closedGood closed) (ascending closed) refl refl refl refl h
+accepted year month closed h =
+    let parts = told (monthGood year month) (closedDatesGood closed) h in
+    let list = both (leb (length closed) 64) (every closedGood closed and ascending closed) (parts .1) in
+    let dates = both (every closedGood closed) (ascending closed) (list .1) in
+    record { month-good = parts .0; few = leb-true (length closed) 64 (list .0); dates-good = dates .0; in-turn = dates .1 }
   where
-    told : (m long each rising : Bool) → monthGood year month ≡ m → ltb 64 (length closed) ≡ long → every closedGood closed ≡ each → ascending closed ≡ rising
-        → first (30 if not m ∷ 31 if (long || not each || not rising) ∷ []) ≡ 0 → Accepted year month closed
-    told true false true true m long each rising h = record { month-good = m; few = ltb-false 64 (length closed) long; dates-good = each; in-turn = rising }
-    told true false true false m long each rising h = absurd (omega (arith, h))
-    told true false false s m long each rising h = absurd (omega (arith, h))
-    told true true r s m long each rising h = absurd (omega (arith, h))
-    told false q r s m long each rising h = absurd (omega (arith, h))
+    told : (m c : Bool) → first (30 if not m ∷ 31 if not c ∷ []) ≡ 0 → (m ≡ true) × (c ≡ true)
+    told true true h = (refl, refl)
+    told true false h = absurd (omega (arith, h))
+    told false c h = absurd (omega (arith, h))
 
--- the 10th of a month is a date
-pub tenth-dated : (year month : ℕ) → monthGood year month ≡ true → dated (tenthOf year month) ≡ true
-tenth-dated year month h =
+-- the first 28 days of a month are dates, the 10th among them
+pub early-dated : (year month day : ℕ) → monthGood year month ≡ true → 1 ≤ day → day ≤ 28 → dated (record { year = year; month = month; day = day }) ≡ true
+early-dated year month day h least most =
     let within = within-table year month h in
-    told-dated (tenthOf year month)
+    told-dated (record { year = year; month = month; day = day })
     (record {
       year-least = omega (arith, within);
       month-least = within .first;
       month-most = within .last;
-      day-least = omega arith;
-      day-most = omega (arith, month-between year (month - 1) (omega (arith, within)));
+      day-least = least;
+      day-most = omega (arith, most, month-between year (month - 1) (omega (arith, within)));
     })
+
+tenth-dated : (year month : ℕ) → monthGood year month ≡ true → dated (tenthOf year month) ≡ true
+tenth-dated year month h = early-dated year month 10 h (omega arith) (omega arith)
 
 -- within 365 days of a date at most one year ends
 pub after-year : (days : ℕ) (d : Date) → dated d ≡ true → days ≤ 365 → daysAfter days d .year ≤ d .year + 1

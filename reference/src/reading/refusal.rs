@@ -1,4 +1,5 @@
-//! The refusals, each with document 01's number.
+//! The refusals, each with the number of document 01, or of document 02 from
+//! 30 on.
 
 /// Why a call, a read or a write is refused.
 #[derive(Clone, Copy, Debug, PartialEq, Eq, PartialOrd, Ord, Hash)]
@@ -32,10 +33,12 @@ pub enum Refusal {
     Malformed = 26,
     NoExpiryLast = 27,
     PlaceBeyond = 28,
+    YearOrMonth = 30,
+    ClosedDates = 31,
 }
 
 impl Refusal {
-    /// The number document 01 gives this refusal.
+    /// The number the papers give this refusal.
     pub fn number(self) -> u8 {
         self as u8
     }

@@ -1,5 +1,5 @@
-//! Generated files, what they reach, demand 3 over lists of calls, and files held
-//! against a program.
+//! Generated files and rows, what they reach, demand 3 over lists of calls, and
+//! files and rows held against a program.
 
 pub mod demand;
 pub mod examples;
@@ -7,4 +7,5 @@ pub mod generate;
 pub mod hand;
 pub mod random;
 pub mod reach;
+pub mod rows;
 pub mod running;

@@ -1,7 +1,8 @@
-//! Runs a program on a file and holds what it prints against what is wanted.
+//! Runs a program on a file, or on pieces that come through a pipe, and holds
+//! what it prints against what is wanted.
 
 use std::fs::{self, File};
-use std::io::{self, Read};
+use std::io::{self, Read, Write};
 use std::path::Path;
 use std::process::{Child, Command, Stdio};
 use std::sync::mpsc;
@@ -10,8 +11,10 @@ use std::time::Duration;
 
 /// How long a program may take over one file.
 const PATIENCE: Duration = Duration::from_secs(20);
-/// More than any listing has.
+/// More than any listing has, or the rows that are printed for an input.
 const MOST_OUTPUT: u64 = 1 << 20;
+/// Enough for a program to have read the piece before.
+const PAUSE: Duration = Duration::from_millis(1);
 
 /// What the program answers to a file. Each run has a file of its own to lend,
 /// in the folder.
@@ -19,12 +22,37 @@ pub fn answer(program: &str, bytes: &[u8], folder: &Path) -> Result<Answer, Stri
     let path = folder.join(format!("run-{}.events", std::process::id()));
     let at_path = |error: io::Error| format!("{}: {error}", path.display());
     fs::write(&path, bytes).map_err(at_path)?;
-    let answer = run(program, &path).map_err(|error| format!("{program} cannot be run: {error}"));
+    let lent = File::open(&path).map_err(at_path)?;
+    let answer = start(program, lent.into())
+        .and_then(finish)
+        .map_err(|error| cannot_be_run(program, error));
     fs::remove_file(&path).map_err(at_path)?;
     answer
 }
 
-/// What a program did with a file.
+/// What the program answers to bytes that come through a pipe, in pieces and
+/// with a pause before each. A program that stops reading is given no more.
+pub fn answer_to_pieces(program: &str, bytes: &[u8], piece: usize) -> Result<Answer, String> {
+    let failed = |error| cannot_be_run(program, error);
+    let mut child = start(program, Stdio::piped()).map_err(failed)?;
+    let pipe = child.stdin.take();
+    let bytes = bytes.to_vec();
+    thread::spawn(move || {
+        pipe.and_then(|mut pipe| {
+            bytes.chunks(piece).try_for_each(|piece| {
+                thread::sleep(PAUSE);
+                pipe.write_all(piece).ok()
+            })
+        })
+    });
+    finish(child).map_err(failed)
+}
+
+fn cannot_be_run(program: &str, error: io::Error) -> String {
+    format!("{program} cannot be run: {error}")
+}
+
+/// What a program did with a file or with pieces.
 pub struct Answer {
     pub output: Vec<u8>,
     errors: Vec<u8>,
@@ -32,6 +60,12 @@ pub struct Answer {
 }
 
 impl Answer {
+    /// Why this is no normal end with nothing on standard error, whatever the
+    /// program printed.
+    pub fn trouble(&self) -> Option<String> {
+        self.unlike(&self.output)
+    }
+
     /// Why this is not the wanted answer, a normal end with nothing on standard
     /// error.
     pub fn unlike(&self, wanted: &[u8]) -> Option<String> {
@@ -70,13 +104,17 @@ fn quoted(row: &[u8]) -> String {
     format!("{:?}", String::from_utf8_lossy(&row[..row.len().min(60)]))
 }
 
-/// Runs the program with the file on standard input.
-fn run(program: &str, path: &Path) -> io::Result<Answer> {
-    let mut child = Command::new(program)
-        .stdin(Stdio::from(File::open(path)?))
+/// Starts the program with that on standard input.
+fn start(program: &str, input: Stdio) -> io::Result<Child> {
+    Command::new(program)
+        .stdin(input)
         .stdout(Stdio::piped())
         .stderr(Stdio::piped())
-        .spawn()?;
+        .spawn()
+}
+
+/// Waits for the program's end and takes what it printed.
+fn finish(mut child: Child) -> io::Result<Answer> {
     let output = collect(child.stdout.take());
     let errors = collect(child.stderr.take());
     let in_time = output

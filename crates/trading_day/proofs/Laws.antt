@@ -1,0 +1,4 @@
+pub mod Answer
+pub mod InTurn
+pub mod Passed
+pub mod Walk

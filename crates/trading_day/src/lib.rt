@@ -1,0 +1,69 @@
+// The last trading day of a contract: the first one from the 10th of its month on (02, e).
+ghost use Rattle.rules.specs.Words.{_≡_};
+ghost use Rattle.rules.specs.LastTradingDay;
+use rules::dates::CLOSED_MOST;
+use rules::dates::Date;
+use rules::dates::LastDay;
+use rules::dates::MONTHS;
+use rules::dates::TENTHS_FROM;
+use rules::dates::TENTHS_TO;
+use rules::limits::ACCEPTED;
+use rules::limits::BAD_CLOSED;
+use rules::limits::BAD_MONTH;
+
+mod closed;
+mod search;
+
+// Whether year and month are allowed (02, e, 5).
+fn month_good(year: u32, month: u32) -> bool
+    ensures { λ r. ⌜ r ≡ LastTradingDay.monthGood year month ⌝ }
+{
+    let in_years = (TENTHS_FROM <= year) & (year <= TENTHS_TO);
+    in_years & ((1 <= month) & (month <= MONTHS as u32))
+}
+
+// Whether there are not too many closed dates, each is allowed, and each is below the next (02, e, 5).
+fn closed_good(closed: &[u32]) -> bool
+    ensures { λ r. ⌜ r ≡ LastTradingDay.closedDatesGood (now (closed .entry)) ⌝ }
+{
+    if CLOSED_MOST < closed.len() {
+        return false;
+    }
+    closed::in_turn(closed)
+}
+
+// The number of the refusal, 0 where there is none (02, e, 5).
+fn refusal(year: u32, month: u32, closed: &[u32]) -> u8
+    ensures { λ r. ⌜ r ≡ LastTradingDay.lastDayNumber year month (now (closed .entry)) ⌝ }
+{
+    let of_a_month = month_good(year, month);
+    let of_closed_dates = closed_good(closed);
+    if !of_a_month {
+        return BAD_MONTH;
+    }
+    if !of_closed_dates {
+        return BAD_CLOSED;
+    }
+    ACCEPTED
+}
+
+// The last trading day by year, month and closed dates, or the refusal (02, e, 1 and 2 and 3 and 4 and 5).
+pub fn last_day(year: u32, month: u32, closed: &[u32]) -> LastDay
+    ensures { λ r. ⌜ r ≡ LastTradingDay.lastDayAnswer year month (now (closed .entry)) ⌝ }
+    ensures { λ r. ⌜ LastTradingDay.numberOfLastDay r ≡ LastTradingDay.lastDayNumber year month (now (closed .entry)) ⌝ }
+    ensures { λ r. ⌜ LastTradingDay.datesOfLastDay r ≡ LastTradingDay.lastDayDates year month (now (closed .entry)) ⌝ }
+{
+    let number = refusal(year, month, closed);
+    if number != ACCEPTED {
+        return LastDay::Refused(number);
+    }
+    let date = search::first_trading(
+        Date {
+            year,
+            month,
+            day: 10,
+        },
+        closed,
+    );
+    LastDay::On(date)
+}
