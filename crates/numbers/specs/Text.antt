@@ -1,10 +1,10 @@
--- Texts and numbers in base ten, as bytes in ASCII.
-use Prim.Native.Nat.{ℕ, zero, suc, _+_, _/_, _%_}
+-- Texts and numbers in base ten, as bytes in ASCII; the parts of a text.
+use Prim.Native.Nat.{ℕ, zero, suc, _+_, _-_, _*_, _/_, _%_}
 use Prim.Native.Char.{code}
 use Prim.Native.String.{String, [] as none, _∷_ as _then_}
-use mathlib.Core.Bool.{true, false}
+use mathlib.Core.Bool.{true, false, cond}
 use mathlib.Core.List.{List, [], _∷_}
-use lib.Dec.{ltb}
+use lib.Dec.{ltb, eqb}
 use lib.IntN.{ℤ, pos, negsuc}
 
 -- the bytes of a text
@@ -27,7 +27,25 @@ unfoldable pub signedDecimal : ℤ → List ℕ
 signedDecimal (pos n) = decimal n
 signedDecimal (negsuc n) = 45 ∷ decimal (n + 1)
 
+-- the number that digits in ASCII stand for, after a number in front of them; of digits alone it is 0
+unfoldable pub digitsAfter : ℕ → List ℕ → ℕ
+digitsAfter n [] = n
+digitsAfter n (digit ∷ digits) = digitsAfter (10 * n + (digit - 48)) digits
+
+abbrev pub digitsValue : List ℕ → ℕ
+digitsValue = digitsAfter 0
+
+-- a byte in front of the first part of a text; where there is no part, it is one
+unfoldable pub inFront : ℕ → List (List ℕ) → List (List ℕ)
+inFront b [] = (b ∷ []) ∷ []
+inFront b (part ∷ parts) = (b ∷ part) ∷ parts
+
+-- the parts of a text, each ended by a byte; what follows the last one is a part too where it is not empty
+unfoldable pub partsOf : ℕ → List ℕ → List (List ℕ)
+partsOf end [] = []
+partsOf end (b ∷ bs) = cond (eqb b end) ([] ∷ partsOf end bs) (inFront b (partsOf end bs))
+
 -- every definition above, unfolded at once
 unfoldable pub computed : Unit {0}
-unfolding bytes digitsFrom decimal signedDecimal
+unfolding bytes digitsFrom decimal signedDecimal digitsAfter inFront partsOf
 computed = tt

@@ -15,21 +15,39 @@ pub struct Input {
     pub count: usize,
 }
 
-// Reads standard input until it ends or the buffer is full. A failure is said on standard error: it is no empty input.
+// Reads once what there is of standard input, 0 bytes where it has ended. A failure is said on standard error: it is no end of the input.
+pub fn read_some(buffer: &mut [u8]) -> Input
+    ensures { λ r. ⌜ Counts (r .count) (now (buffer .exit)) ⌝ }
+{
+    let got = libc::read(STDIN_FILENO, buffer);
+    if got < 0 {
+        os::fail(b"standard input cannot be read");
+        return Input {
+            failed: true,
+            count: 0,
+        };
+    }
+    let count = io::count(got, buffer);
+    Input {
+        failed: false,
+        count,
+    }
+}
+
+// Reads standard input until it ends or the buffer is full.
 pub fn read_input(buffer: &mut [u8]) -> Input
     ensures { λ r. ⌜ Counts (r .count) (now (buffer .exit)) ⌝ }
 {
     let mut count = 0;
     while count < buffer.len() {
-        let got = libc::read(STDIN_FILENO, &mut buffer[count..]);
-        if got < 0 {
-            os::fail(b"standard input cannot be read");
+        let some = read_some(&mut buffer[count..]);
+        if some.failed {
             return Input {
                 failed: true,
                 count: 0,
             };
         }
-        let more = io::count(got, &buffer[count..]);
+        let more = some.count;
         if more == 0 {
             break;
         }
@@ -41,9 +59,11 @@ pub fn read_input(buffer: &mut [u8]) -> Input
     }
 }
 
-// Writes all bytes to standard output. That some could not be written is said on standard error.
-pub fn write_output(bytes: &[u8]) {
-    if !io::write_all(STDOUT_FILENO, bytes) {
+// Writes all bytes to standard output, and answers whether it did. That some could not be written is said on standard error.
+pub fn write_output(bytes: &[u8]) -> bool {
+    let written = io::write_all(STDOUT_FILENO, bytes);
+    if !written {
         os::fail(b"standard output cannot be written");
     }
+    written
 }

@@ -1,38 +1,17 @@
-// Closed dates, each as one number, and the walk over them beside the days.
-ghost use Rattle.rules.specs.Words.{_≡_, _<_, _≤_, length, drop, every, ascending, _and_};
-ghost use Rattle.rules.specs.LastTradingDay.{numberOfDate, dateOfNumber, closedGood};
+// Closed dates, and the walk over them beside the days.
+ghost use Rattle.rules.specs.Words.{_≡_, _≤_, length, drop, every, ascending, _and_};
+ghost use Rattle.rules.specs.LastTradingDay.{closedGood};
 ghost use Rattle.trading_day.specs.Walk.{Passed, startsWith};
+use crate::numbered;
 use calendar::dates;
 use rules::dates::CLOSED_TO;
-use rules::dates::Date;
 use rules::dates::TENTHS_FROM;
-
-// The number of a date (02, e, 2).
-pub fn number_of(date: Date) -> u32
-    requires { ⌜ numberOfDate date < 4_294_967_296 ⌝ }
-    ensures { λ r. ⌜ r ≡ numberOfDate date ⌝ }
-{
-    let year = date.year;
-    let month = date.month;
-    let day = date.day;
-    year * 10_000 + month * 100 + day
-}
-
-// The date that a number stands for (02, e, 2).
-fn date_of(number: u32) -> Date
-    ensures { λ r. ⌜ r ≡ dateOfNumber number ⌝ }
-{
-    let year = number / 10_000;
-    let month = number / 100 % 100;
-    let day = number % 100;
-    Date { year, month, day }
-}
 
 // Whether a closed date is of the years allowed and in the calendar (02, e, 5).
 fn allowed(number: u32) -> bool
     ensures { λ r. ⌜ r ≡ closedGood number ⌝ }
 {
-    let date = date_of(number);
+    let date = numbered::date_of(number);
     let year = date.year;
     let in_years = (TENTHS_FROM <= year) & (year <= CLOSED_TO);
     in_years & dates::dated(date)
@@ -57,13 +36,13 @@ pub fn in_turn(closed: &[u32]) -> bool
 }
 
 // The first place from one on where a closed date is not below a number.
-pub fn passed(closed: &[u32], from: usize, number: u32) -> usize
+pub fn passed(closed: &[u32], from: usize, number: u64) -> usize
     requires { ⌜ from ≤ length (now closed) ⌝ }
     ensures { λ r. ⌜ Passed (now (closed .entry)) from number r ⌝ }
 {
     let mut at = from;
     while at < closed.len() {
-        let date = closed[at];
+        let date = closed[at] as u64;
         if number <= date {
             return at;
         }
@@ -73,11 +52,11 @@ pub fn passed(closed: &[u32], from: usize, number: u32) -> usize
 }
 
 // Whether a number is the closed date at a place.
-pub fn stands_at(closed: &[u32], at: usize, number: u32) -> bool
+pub fn stands_at(closed: &[u32], at: usize, number: u64) -> bool
     ensures { λ r. ⌜ r ≡ startsWith number (drop at (now (closed .entry))) ⌝ }
 {
     if at < closed.len() {
-        let date = closed[at];
+        let date = closed[at] as u64;
         return number == date;
     }
     false

@@ -12,6 +12,7 @@ use rules::limits::BAD_CLOSED;
 use rules::limits::BAD_MONTH;
 
 mod closed;
+pub mod numbered;
 mod search;
 
 // Whether year and month are allowed (02, e, 5).

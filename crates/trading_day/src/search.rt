@@ -4,6 +4,7 @@ ghost use Rattle.rules.specs.Calendar;
 ghost use Rattle.rules.specs.LastTradingDay.{weekend, firstTrading};
 ghost use Rattle.trading_day.specs.Walk.{startsWith};
 use crate::closed;
+use crate::numbered;
 use calendar::dates;
 use rules::dates::DAYS_SEARCHED;
 use rules::dates::Date;
@@ -11,7 +12,7 @@ use rules::dates::SATURDAY;
 use rules::dates::SUNDAY;
 
 // Whether a day is a Saturday, a Sunday or the closed date at a place (02, e, 2).
-fn shut(weekday: u8, closed: &[u32], at: usize, number: u32) -> bool
+fn shut(weekday: u8, closed: &[u32], at: usize, number: u64) -> bool
     ensures { λ r. ⌜ r ≡ (weekend weekday || startsWith number (drop at (now (closed .entry)))) ⌝ }
 {
     let weekend = (weekday == SATURDAY) | (weekday == SUNDAY);
@@ -28,7 +29,7 @@ pub fn first_trading(start: Date, closed: &[u32]) -> Date
     let mut at = 0;
     let mut days = 0;
     while days < DAYS_SEARCHED {
-        let number = closed::number_of(date);
+        let number = numbered::number_of(date);
         at = closed::passed(closed, at, number);
         if !shut(weekday, closed, at, number) {
             return date;

@@ -6,49 +6,31 @@ use Rattle.program_io.proofs.read_input.Statement.{statement}
 use Rattle.program_io.proofs.read_input.Tie as tie
 
 abbrev Inv-loop : tie.InvT-loop
-Inv-loop buffer₀ count₀ t5 buffer count = (length buffer ≡ length buffer₀) × Counts count buffer
+Inv-loop buffer₀ count₀ buffer count = (length buffer ≡ length buffer₀) × Counts count buffer
 
 abbrev μ-loop : tie.MeasureT-loop
-μ-loop buffer₀ count₀ t5 buffer count = length buffer - count
+μ-loop buffer₀ count₀ buffer count = length buffer - count
 
 loop-holds : tie.Need-loop-holds Inv-loop μ-loop
 loop-holds c = search needs
 
-sub-read : tie.Need-sub-read Inv-loop μ-loop
-sub-read c = search needs
+sub-read-some : tie.Need-sub-read-some Inv-loop μ-loop
+sub-read-some c = search needs
 
-part-read-start : tie.Need-part-read-start Inv-loop μ-loop
-part-read-start c = search needs
+part-read-some-start : tie.Need-part-read-some-start Inv-loop μ-loop
+part-read-some-start c = search needs
 
-part-read-end : tie.Need-part-read-end Inv-loop μ-loop
-part-read-end c = search needs
+part-read-some-end : tie.Need-part-read-some-end Inv-loop μ-loop
+part-read-some-end c = search needs
 
-read-requires : tie.Need-read-requires Inv-loop μ-loop
-read-requires c κs = search needs
-
-slice-aggregate-fail : tie.Need-slice-aggregate-fail Inv-loop μ-loop
-slice-aggregate-fail c = search needs
-
-fail-requires : tie.Need-fail-requires Inv-loop μ-loop
-fail-requires c κs = search needs
+read-some-requires : tie.Need-read-some-requires Inv-loop μ-loop
+read-some-requires c κs = search needs
 
 same-length : tie.Need-same-length Inv-loop μ-loop
 same-length c = search needs
 
 returns : tie.Need-returns Inv-loop μ-loop
 returns c = search needs
-
-sub-count : tie.Need-sub-count Inv-loop μ-loop
-sub-count c = search needs
-
-part-count-start : tie.Need-part-count-start Inv-loop μ-loop
-part-count-start c = search needs
-
-part-count-end : tie.Need-part-count-end Inv-loop μ-loop
-part-count-end c = search needs
-
-count-requires : tie.Need-count-requires Inv-loop μ-loop
-count-requires c κs = search needs
 
 add-count : tie.Need-add-count Inv-loop μ-loop
 add-count c = search needs
@@ -78,18 +60,12 @@ read-input-spec =
     Inv-loop
     μ-loop
     loop-holds
-    sub-read
-    part-read-start
-    part-read-end
-    read-requires
-    slice-aggregate-fail
-    fail-requires
+    sub-read-some
+    part-read-some-start
+    part-read-some-end
+    read-some-requires
     same-length
     returns
-    sub-count
-    part-count-start
-    part-count-end
-    count-requires
     add-count
     loop-less
     loop-again

@@ -3,8 +3,7 @@ use Rattle.numbers.proofs.Words.{ℕ, suc, _+_, _-_, _≤_, _<_, arith, _≡_, 
 use Rattle.rules.specs.declared.dates.{Date.Date}
 use Rattle.rules.specs.Calendar.{dated, weekday, nextDay, nextWeekday}
 use Rattle.rules.specs.LastTradingDay.{numberOfDate, weekend, closedOn, trading, firstTrading, daysAfter}
-use Rattle.calendar_laws.proofs.Days.{dated-told, gregorian}
-use Rattle.calendar_laws.proofs.Order.{day-limit}
+use Rattle.calendar_laws.proofs.Days.{gregorian}
 use Rattle.calendar_laws.proofs.Search.{after-dated, after-year, after-apart}
 use Rattle.trading_day.specs.Walk.{notBelow, Passed, startsWith}
 use Rattle.trading_day.proofs.Laws.Passed.{passed-on, among-ascending}
@@ -34,16 +33,12 @@ unfolding weekday
 weekday-most d = omega arith
 
 module _ {closed : List ℕ} {start date : Date} {w at days : ℕ} (g : Given start closed) (walk : Walk closed start date w at days) where
-  -- the date is in the calendar, in 2051 at the latest, and its number is one of 32 bits
+  -- the date is in the calendar, in 2051 at the latest
   dated-now : dated date ≡ true
   dated-now = ap dated (walk .day) ∙ after-dated days start (g .in-calendar)
 
   pub year-most : date .year ≤ 2051
   year-most = omega (arith, ap (λ (d : Date). d .year) (walk .day), after-year days start (g .in-calendar) (omega (arith, walk .within)), g .in-years)
-
-  pub number-fits : numberOfDate date < 4_294_967_296
-  unfolding numberOfDate
-  number-fits = let told = dated-told date dated-now in omega (arith, year-most, told .month-most, day-limit date told)
 
   -- the search from here on, by the test of this day
   by-test : (t : Bool) (more : ℕ) → 91 - days ≡ suc more → trading closed date ≡ t → elim t [ true ↦ date | false ↦ firstTrading more closed (nextDay date) ] ≡ firstTrading 91 closed start

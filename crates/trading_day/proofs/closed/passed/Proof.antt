@@ -20,6 +20,9 @@ mul-date c = omega arith
 shared-slice-read-date : tie.Need-shared-slice-read-date Inv-loop μ-loop
 shared-slice-read-date c = omega arith
 
+cast-date : tie.Need-cast-date Inv-loop μ-loop
+cast-date c = omega (arith, c .shared-slice-known .given (c .before .before .loop .at))
+
 returns : tie.Need-returns Inv-loop μ-loop
 returns c =
     let at = c .before .before .before in
@@ -56,6 +59,7 @@ passed-spec =
     loop-holds
     mul-date
     shared-slice-read-date
+    cast-date
     returns
     add-at
     loop-less

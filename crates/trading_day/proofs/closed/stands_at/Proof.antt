@@ -10,6 +10,9 @@ mul-date c = search needs
 shared-slice-read-date : tie.Need-shared-slice-read-date
 shared-slice-read-date c = search needs
 
+cast-date : tie.Need-cast-date
+cast-date c = omega (arith, c .shared-slice-known .given (c .before .before .args .at))
+
 returns : tie.Need-returns
 returns c =
     let start = c .before .before in
@@ -21,4 +24,4 @@ returns-2 c =
     sym (starts-nowhere (now (start .args .closed)) (start .args .at) (start .args .number) (omega arith))
 
 pub stands-at-spec : {M : Type 1} → statement M
-stands-at-spec = tie.close (tie.spec mul-date shared-slice-read-date returns returns-2)
+stands-at-spec = tie.close (tie.spec mul-date shared-slice-read-date cast-date returns returns-2)

@@ -1,7 +1,7 @@
 use Rattle.numbers.proofs.Words.{_-_, arith, _≡_, ap, _∙_, true, false, not, now, needs}
 use Rattle.numbers.proofs.Tests.{failed, passed}
 use Rattle.rules.specs.LastTradingDay.{trading}
-use Rattle.trading_day.proofs.Laws.Walk.{Given, Walk, walk-start, walk-stop, walk-next, walk-end, weekday-most, year-most, number-fits, trading-now}
+use Rattle.trading_day.proofs.Laws.Walk.{Given, Walk, walk-start, walk-stop, walk-next, walk-end, weekday-most, year-most, trading-now}
 use Rattle.trading_day.proofs.search.first_trading.Statement.{statement}
 use Rattle.trading_day.proofs.search.first_trading.Tie as tie
 
@@ -30,7 +30,7 @@ loop-holds : tie.Need-loop-holds Inv-loop μ-loop
 loop-holds c = walk-start _ _ (c .weekday .ensures)
 
 number-of-requires : tie.Need-number-of-requires Inv-loop μ-loop
-number-of-requires c κs = number-fits (given (c .before)) (c .before .loop .inv)
+number-of-requires c κs = search needs
 
 passed-requires : tie.Need-passed-requires Inv-loop μ-loop
 passed-requires c κs = c .before .before .loop .inv .place

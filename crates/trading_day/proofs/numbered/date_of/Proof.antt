@@ -1,7 +1,7 @@
 use Rattle.numbers.proofs.Words.{refl}
 use Rattle.rules.specs.LastTradingDay.{dateOfNumber}
-use Rattle.trading_day.proofs.closed.date_of.Statement.{statement}
-use Rattle.trading_day.proofs.closed.date_of.Tie as tie
+use Rattle.trading_day.proofs.numbered.date_of.Statement.{statement}
+use Rattle.trading_day.proofs.numbered.date_of.Tie as tie
 
 returns : tie.Need-returns
 unfolding dateOfNumber

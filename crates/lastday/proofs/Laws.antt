@@ -1,0 +1,5 @@
+pub mod Digits
+pub mod Fields
+pub mod Reading
+pub mod Answers
+pub mod Feeding
