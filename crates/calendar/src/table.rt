@@ -47,17 +47,23 @@ pub fn tenths() -> [[u8; MONTHS]; TENTHS_YEARS]
     TABLE
 }
 
+// Whether a month is one of the table's thirty years (02, d, 1; 02, e, 5).
+pub fn in_thirty_years(year: u32, month: u32) -> bool
+    ensures { λ r. ⌜ r ≡ Calendar.inThirtyYears year month ⌝ }
+{
+    let in_years = (TENTHS_FROM <= year) & (year <= TENTHS_TO);
+    in_years & ((1 <= month) & (month <= MONTHS as u32))
+}
+
 // The table's entry by year and month, 0 where it has none (02, d, 1).
 pub fn tenth(year: u32, month: u32) -> u8
     ensures { λ r. ⌜ r ≡ Calendar.tenth year month ⌝ }
 {
-    let from_one = month as usize;
-    let in_years = (TENTHS_FROM <= year) & (year <= TENTHS_TO);
-    let in_table = in_years & ((1 <= from_one) & (from_one <= MONTHS));
-    if !in_table {
+    if !in_thirty_years(year, month) {
         return 0;
     }
     let row = (year - TENTHS_FROM) as usize;
+    let from_one = month as usize;
     let column = from_one - 1;
     let table = tenths();
     table[row][column]

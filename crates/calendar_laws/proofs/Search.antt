@@ -5,8 +5,8 @@ use Rattle.numbers.proofs.Ranges.{sum-moved}
 use Rattle.numbers.proofs.Counts.{one, many-same, many-within, many-among}
 use Rattle.rules.specs.declared.dates.{Date.Date}
 use Rattle.rules.specs.Calls.{_if_, first}
-use Rattle.rules.specs.Calendar.{dated, daysBeforeYear, dayNumber, weekday, nextDay, tenthOf, Gregorian}
-use Rattle.rules.specs.LastTradingDay.{numberOfDate, dateOfNumber, weekend, closedOn, trading, firstTrading, lastDay, monthGood, closedGood, closedDatesGood, lastDayNumber, daysAfter, IsLastDay, LastDayShown}
+use Rattle.rules.specs.Calendar.{dated, daysBeforeYear, dayNumber, weekday, nextDay, tenthOf, inThirtyYears}
+use Rattle.rules.specs.LastTradingDay.{numberOfDate, dateOfNumber, weekend, closedOn, trading, firstTrading, lastDay, closedGood, closedDatesGood, lastDayNumber, daysAfter, IsLastDay, LastDayShown}
 use Rattle.calendar_laws.proofs.Years.{year-days, month-between, year-more}
 use Rattle.calendar_laws.proofs.Days.{Dated, dated-told, told-dated, gregorian}
 use Rattle.calendar_laws.proofs.Tenths.{within-table}
@@ -85,6 +85,16 @@ enough closed few d h none =
     shut false true e k = refl
     shut false false e k = absurd (true≢false e)
 
+-- a search by the test of its first date
+module _ (n : ℕ) (closed : List ℕ) (d : Date) where
+  pub first-here : trading closed d ≡ true → firstTrading (suc n) closed d ≡ d
+  unfolding firstTrading
+  first-here e = ap (λ (t : Bool). elim t [ true ↦ d | false ↦ firstTrading n closed (nextDay d) ]) e
+
+  pub first-later : trading closed d ≡ false → firstTrading (suc n) closed d ≡ firstTrading n closed (nextDay d)
+  unfolding firstTrading
+  first-later e = ap (λ (t : Bool). elim t [ true ↦ d | false ↦ firstTrading n closed (nextDay d) ]) e
+
 -- what a search over n days from a date on comes to: so many days later, none sooner is a trading day, and this one is where it is among the n
 record Searched (n : ℕ) (closed : List ℕ) (d ended : Date) : Type 0 where
   days : ℕ
@@ -103,21 +113,23 @@ searched (suc n) closed d = go (trading closed d) refl (searched n closed (nextD
     none-sooner days e none zero h = e
     none-sooner days e none (suc sooner) h = ap (trading closed) (sym (after-next sooner d)) ∙ none sooner (omega arith)
 
-    go : (t : Bool) → trading closed d ≡ t → Searched n closed (nextDay d) (firstTrading n closed (nextDay d))
-        → Searched (suc n) closed d (elim t [ true ↦ d | false ↦ firstTrading n closed (nextDay d) ])
-    go true e rest = record { days = 0; within = omega arith; day = refl; none = λ sooner h. absurd (not-suc-le-zero h); trades = λ h. e }
+    go : (t : Bool) → trading closed d ≡ t → Searched n closed (nextDay d) (firstTrading n closed (nextDay d)) → Searched (suc n) closed d (firstTrading (suc n) closed d)
+    go true e rest =
+        let here = first-here n closed d e in
+        record { days = 0; within = omega arith; day = here; none = λ sooner h. absurd (not-suc-le-zero h); trades = λ h. ap (trading closed) here ∙ e }
     go false e rest =
+        let later = first-later n closed d e in
         record {
           days = suc (rest .days);
           within = omega (arith, rest .within);
-          day = rest .day ∙ after-next (rest .days) d;
+          day = later ∙ rest .day ∙ after-next (rest .days) d;
           none = none-sooner (rest .days) e (rest .none);
-          trades = λ h. rest .trades (omega (arith, h));
+          trades = λ h. ap (trading closed) later ∙ rest .trades (omega (arith, h));
         }
 
 -- what is known where nothing is refused
 pub record Accepted (year month : ℕ) (closed : List ℕ) : Type 0 where
-  pub month-good : monthGood year month ≡ true
+  pub month-good : inThirtyYears year month ≡ true
   pub few : length closed ≤ 64
   pub dates-good : every closedGood closed ≡ true
   pub in-turn : ascending closed ≡ true
@@ -125,7 +137,7 @@ pub record Accepted (year month : ℕ) (closed : List ℕ) : Type 0 where
 pub accepted : (year month : ℕ) (closed : List ℕ) → lastDayNumber year month closed ≡ 0 → Accepted year month closed
 unfolding lastDayNumber first
 accepted year month closed h =
-    let parts = told (monthGood year month) (closedDatesGood closed) h in
+    let parts = told (inThirtyYears year month) (closedDatesGood closed) h in
     let list = both (leb (length closed) 64) (every closedGood closed and ascending closed) (parts .1) in
     let dates = both (every closedGood closed) (ascending closed) (list .1) in
     record { month-good = parts .0; few = leb-true (length closed) 64 (list .0); dates-good = dates .0; in-turn = dates .1 }
@@ -136,7 +148,7 @@ accepted year month closed h =
     told false c h = absurd (omega (arith, h))
 
 -- the first 28 days of a month are dates, the 10th among them
-pub early-dated : (year month day : ℕ) → monthGood year month ≡ true → 1 ≤ day → day ≤ 28 → dated (record { year = year; month = month; day = day }) ≡ true
+pub early-dated : (year month day : ℕ) → inThirtyYears year month ≡ true → 1 ≤ day → day ≤ 28 → dated (record { year = year; month = month; day = day }) ≡ true
 early-dated year month day h least most =
     let within = within-table year month h in
     told-dated (record { year = year; month = month; day = day })
@@ -148,7 +160,7 @@ early-dated year month day h least most =
       day-most = omega (arith, most, month-between year (month - 1) (omega (arith, within)));
     })
 
-tenth-dated : (year month : ℕ) → monthGood year month ≡ true → dated (tenthOf year month) ≡ true
+tenth-dated : (year month : ℕ) → inThirtyYears year month ≡ true → dated (tenthOf year month) ≡ true
 tenth-dated year month h = early-dated year month 10 h (omega arith) (omega arith)
 
 -- within 365 days of a date at most one year ends
@@ -209,14 +221,35 @@ alone year month closed d e h k =
     sooner : (d e : Date) → IsLastDay year month closed d → IsLastDay year month closed e → dayNumber d < dayNumber e → ⊥
     sooner d e h k l = true≢false (sym (h .trades) ∙ k .none-sooner d (h .in-calendar) (h .from-tenth) l)
 
--- a search depends on the closed dates from its start on
-same-from : (n : ℕ) (closed others : List ℕ) (d : Date) → dated d ≡ true → ((e : Date) → dated e ≡ true → dayNumber d ≤ dayNumber e → closedOn closed e ≡ closedOn others e)
+-- the test of a date by two lists that agree on it
+same-test : (closed others : List ℕ) (d : Date) → closedOn closed d ≡ closedOn others d → trading closed d ≡ trading others d
+unfolding trading
+same-test closed others d = ap (λ (c : Bool). not (weekend (weekday d) || c))
+
+-- a search finds no date before its start
+search-from : (n : ℕ) (closed : List ℕ) (d : Date) → dated d ≡ true → dayNumber d ≤ dayNumber (firstTrading n closed d)
+search-from n closed d h =
+    let end = searched n closed d in
+    omega (arith, ap dayNumber (end .day), after-number (end .days) d h)
+
+-- and depends on the closed dates between the two alone
+same-between : (n : ℕ) (closed others : List ℕ) (d : Date) → dated d ≡ true
+    → ((e : Date) → dated e ≡ true → dayNumber d ≤ dayNumber e → dayNumber e ≤ dayNumber (firstTrading n closed d) → closedOn closed e ≡ closedOn others e)
     → firstTrading n closed d ≡ firstTrading n others d
-unfolding firstTrading trading
-same-from zero closed others d h same = refl
-same-from (suc n) closed others d h same =
-    ap₂ (λ (t : Bool) (rest : Date). elim t [ true ↦ d | false ↦ rest ]) (ap (λ (c : Bool). not (weekend (weekday d) || c)) (same d h (omega arith)))
-    (same-from n closed others (nextDay d) (gregorian .next-dated d h) (λ e k from. same e k (omega (arith, from, gregorian .next-number d h))))
+unfolding firstTrading
+same-between zero closed others d h same = refl
+same-between (suc n) closed others d h same =
+    let alike : trading others d ≡ trading closed d = sym (same-test closed others d (same d h (omega arith) (search-from (suc n) closed d h))) in
+    go (trading closed d) refl alike (same-between n closed others (nextDay d) (gregorian .next-dated d h))
+  where
+    go : (t : Bool) → trading closed d ≡ t → trading others d ≡ trading closed d
+        → (((e : Date) → dated e ≡ true → dayNumber (nextDay d) ≤ dayNumber e → dayNumber e ≤ dayNumber (firstTrading n closed (nextDay d)) → closedOn closed e ≡ closedOn others e)
+        → firstTrading n closed (nextDay d) ≡ firstTrading n others (nextDay d))
+        → firstTrading (suc n) closed d ≡ firstTrading (suc n) others d
+    go true e alike later = first-here n closed d e ∙ sym (first-here n others d (alike ∙ e))
+    go false e alike later =
+        let on = first-later n closed d e in
+        on ∙ later (λ f k from to. same f k (omega (arith, from, gregorian .next-number d h)) (omega (arith, to, ap dayNumber on))) ∙ sym (first-later n others d (alike ∙ e))
 
 -- the last trading day as the paper has it, and that there always is one (02, e, 2 and 3 and 4)
 pub last-day-shown : LastDayShown
@@ -229,5 +262,5 @@ last-day-shown =
       thirteen-weeks = thirteen-weeks;
       in-order = λ d e h k. in-order d e (dated-told d h) (dated-told e k);
       own-number = λ d h. own-number d (dated-told d h);
-      from-tenth-on = λ year month closed others h same. same-from 91 closed others (tenthOf year month) (tenth-dated year month h) same;
+      none-else-matters = λ year month closed others h same. same-between 91 closed others (tenthOf year month) (tenth-dated year month h) same;
     }

@@ -1,11 +1,11 @@
 -- The table of tenths: one test over a whole table, which the checker computes, and what it says at each entry.
-use Rattle.numbers.proofs.Words.{ℕ, suc, _+_, _-_, _%_, _<_, _≤_, arith, _≡_, refl, sym, ap, ap₂, _∙_, Bool, true, _&&_, List, [], _∷_, map, length, getD, counted, entry, same, between, leb, leb-true, cond, _and_, false}
+use Rattle.numbers.proofs.Words.{ℕ, suc, _+_, _-_, _%_, _<_, _≤_, arith, _≡_, refl, sym, ap, ap₂, _∙_, Bool, true, _&&_, List, [], _∷_, map, length, getD, counted, entry, same, between, leb, leb-true, cond, false}
 use Rattle.numbers.proofs.Tests.{both}
 use Rattle.numbers.proofs.Bytes.{same-eq}
 use Rattle.numbers.proofs.Changed.{read-at}
 use Rattle.numbers.proofs.Ranges.{counted-length, counted-at}
 use Rattle.rules.specs.declared.dates.{Date.Date}
-use Rattle.rules.specs.Calendar.{daysBeforeMonth, dayNumber, weekday, tenthOf, tenthsOf, tenths, tenth}
+use Rattle.rules.specs.Calendar.{daysBeforeMonth, dayNumber, weekday, tenthOf, tenthsOf, tenths, inThirtyYears, tenth}
 use Rattle.calendar_laws.proofs.Years.{yearsCounted, before-year}
 
 -- a weekday, worked out without a walk over the years
@@ -50,23 +50,20 @@ tenths-at i j h k =
 
 -- the table's entry by year and month, within the table and outside
 module _ (year month : ℕ) where
-  abbrev inTable : Bool
-  inTable = between 2021 2050 year and between 1 12 month
-
   pub record Within : Type 0 where
     pub from : 2021 ≤ year
     pub to : year ≤ 2050
     pub first : 1 ≤ month
     pub last : month ≤ 12
 
-  pub within-table : inTable ≡ true → Within
+  pub within-table : inThirtyYears year month ≡ true → Within
   within-table h =
       let parts = both (between 2021 2050 year) (between 1 12 month) h in
       let years = both (leb 2021 year) (leb year 2050) (parts .0) in
       let months = both (leb 1 month) (leb month 12) (parts .1) in
       record { from = leb-true 2021 year (years .0); to = leb-true year 2050 (years .1); first = leb-true 1 month (months .0); last = leb-true month 12 (months .1) }
 
-  pub tenth-entry : inTable ≡ true → entry (getD tenths (year - 2021) []) (month - 1) ≡ tenth year month
+  pub tenth-entry : inThirtyYears year month ≡ true → entry (getD tenths (year - 2021) []) (month - 1) ≡ tenth year month
   unfolding tenth
   tenth-entry h =
       let within = within-table h in
@@ -75,6 +72,6 @@ module _ (year month : ℕ) where
       tenths-at (year - 2021) (month - 1) (omega (arith, within)) (omega (arith, within)) ∙ ap₂ (λ (y m : ℕ). weekday (tenthOf y m)) this-year this-month
       ∙ sym (ap (λ (t : Bool). cond t (weekday (tenthOf year month)) 0) h)
 
-  pub tenth-outside : inTable ≡ false → 0 ≡ tenth year month
+  pub tenth-outside : inThirtyYears year month ≡ false → 0 ≡ tenth year month
   unfolding tenth
   tenth-outside h = sym (ap (λ (t : Bool). cond t (weekday (tenthOf year month)) 0) h)

@@ -1,12 +1,10 @@
 // The last trading day of a contract: the first one from the 10th of its month on (02, e).
 ghost use Rattle.rules.specs.Words.{_≡_};
 ghost use Rattle.rules.specs.LastTradingDay;
+use calendar::table;
 use rules::dates::CLOSED_MOST;
 use rules::dates::Date;
 use rules::dates::LastDay;
-use rules::dates::MONTHS;
-use rules::dates::TENTHS_FROM;
-use rules::dates::TENTHS_TO;
 use rules::limits::ACCEPTED;
 use rules::limits::BAD_CLOSED;
 use rules::limits::BAD_MONTH;
@@ -14,14 +12,6 @@ use rules::limits::BAD_MONTH;
 mod closed;
 pub mod numbered;
 mod search;
-
-// Whether year and month are allowed (02, e, 5).
-fn month_good(year: u32, month: u32) -> bool
-    ensures { λ r. ⌜ r ≡ LastTradingDay.monthGood year month ⌝ }
-{
-    let in_years = (TENTHS_FROM <= year) & (year <= TENTHS_TO);
-    in_years & ((1 <= month) & (month <= MONTHS as u32))
-}
 
 // Whether there are not too many closed dates, each is allowed, and each is below the next (02, e, 5).
 fn closed_good(closed: &[u32]) -> bool
@@ -37,7 +27,7 @@ fn closed_good(closed: &[u32]) -> bool
 fn refusal(year: u32, month: u32, closed: &[u32]) -> u8
     ensures { λ r. ⌜ r ≡ LastTradingDay.lastDayNumber year month (now (closed .entry)) ⌝ }
 {
-    let of_a_month = month_good(year, month);
+    let of_a_month = table::in_thirty_years(year, month);
     let of_closed_dates = closed_good(closed);
     if !of_a_month {
         return BAD_MONTH;

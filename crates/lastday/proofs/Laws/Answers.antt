@@ -6,7 +6,8 @@ use Rattle.rules.specs.declared.dates.{Date.Date, LastDay.LastDay}
 use Rattle.rules.specs.declared.dates.LastDay.the-variants.{On, Refused}
 use Rattle.rules.specs.Listing.{row}
 use Rattle.rules.specs.Calls.{_if_, first}
-use Rattle.rules.specs.LastTradingDay.{numberOfDate, lastDay, monthGood, closedDatesGood, lastDayNumber, lastDayAnswer}
+use Rattle.rules.specs.LastTradingDay.{numberOfDate, lastDay, closedDatesGood, lastDayNumber, lastDayAnswer}
+use Rattle.rules.specs.Calendar.{inThirtyYears}
 use Rattle.calendar_laws.proofs.Days.{dated-told}
 use Rattle.calendar_laws.proofs.Order.{day-limit}
 use Rattle.calendar_laws.proofs.Search.{last-day-shown}
@@ -106,7 +107,7 @@ module _ {answer : LastDay} {number : ℕ} (is : answer ≡ Refused number) wher
 -- no refusal is above 31, and the number of no last trading day has more than eight digits
 number-most : (year month : ℕ) (closed : List ℕ) → lastDayNumber year month closed ≤ 31
 unfolding lastDayNumber first
-number-most year month closed = go (monthGood year month) (closedDatesGood closed)
+number-most year month closed = go (inThirtyYears year month) (closedDatesGood closed)
   where
     go : (m c : Bool) → first (30 if not m ∷ 31 if not c ∷ []) ≤ 31
     go true true = omega arith

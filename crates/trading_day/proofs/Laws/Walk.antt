@@ -4,7 +4,7 @@ use Rattle.rules.specs.declared.dates.{Date.Date}
 use Rattle.rules.specs.Calendar.{dated, weekday, nextDay, nextWeekday}
 use Rattle.rules.specs.LastTradingDay.{numberOfDate, weekend, closedOn, trading, firstTrading, daysAfter}
 use Rattle.calendar_laws.proofs.Days.{gregorian}
-use Rattle.calendar_laws.proofs.Search.{after-dated, after-year, after-apart}
+use Rattle.calendar_laws.proofs.Search.{after-dated, after-year, after-apart, first-here, first-later}
 use Rattle.trading_day.specs.Walk.{notBelow, Passed, startsWith}
 use Rattle.trading_day.proofs.Laws.Passed.{passed-on, among-ascending}
 
@@ -40,15 +40,13 @@ module _ {closed : List ℕ} {start date : Date} {w at days : ℕ} (g : Given st
   pub year-most : date .year ≤ 2051
   year-most = omega (arith, ap (λ (d : Date). d .year) (walk .day), after-year days start (g .in-calendar) (omega (arith, walk .within)), g .in-years)
 
-  -- the search from here on, by the test of this day
-  by-test : (t : Bool) (more : ℕ) → 91 - days ≡ suc more → trading closed date ≡ t → elim t [ true ↦ date | false ↦ firstTrading more closed (nextDay date) ] ≡ firstTrading 91 closed start
-  unfolding firstTrading
-  by-test t more e h =
-      sym (ap (λ (s : Bool). elim s [ true ↦ date | false ↦ firstTrading more closed (nextDay date) ]) h) ∙ ap (λ (n : ℕ). firstTrading n closed date) (sym e) ∙ walk .rest
+  -- there is a day more to search
+  one-more : (more : ℕ) → 91 - days ≡ suc more → firstTrading (suc more) closed date ≡ firstTrading 91 closed start
+  one-more more e = ap (λ (n : ℕ). firstTrading n closed date) (sym e) ∙ walk .rest
 
   -- a trading day ends the walk
   pub walk-stop : days < 91 → trading closed date ≡ true → date ≡ firstTrading 91 closed start
-  walk-stop h trades = by-test true (91 - days - 1) (omega arith) trades
+  walk-stop h trades = sym (first-here (91 - days - 1) closed date trades) ∙ one-more (91 - days - 1) (omega arith)
 
   -- after all days the search is over
   pub walk-end : 91 ≤ days → date ≡ firstTrading 91 closed start
@@ -82,5 +80,5 @@ module _ {closed : List ℕ} {start date : Date} {w at days : ℕ} (g : Given st
           place = on .place;
           passed = λ n above. ap (notBelow n) left-now ∙ passed-on (numberOfDate date) n (omega (arith, above, higher)) closed;
           within = omega arith;
-          rest = ap (firstTrading (91 - (days + 1)) closed) e ∙ by-test false (91 - (days + 1)) (omega arith) shut;
+          rest = ap (firstTrading (91 - (days + 1)) closed) e ∙ sym (first-later (91 - (days + 1)) closed date shut) ∙ one-more (91 - (days + 1)) (omega arith);
         }
