@@ -51,8 +51,9 @@ pub fn tenths() -> [[u8; MONTHS]; TENTHS_YEARS]
 pub fn in_thirty_years(year: u32, month: u32) -> bool
     ensures { λ r. ⌜ r ≡ Calendar.inThirtyYears year month ⌝ }
 {
+    let months = MONTHS as u32;
     let in_years = (TENTHS_FROM <= year) & (year <= TENTHS_TO);
-    in_years & ((1 <= month) & (month <= MONTHS as u32))
+    in_years & ((1 <= month) & (month <= months))
 }
 
 // The table's entry by year and month, 0 where it has none (02, d, 1).

@@ -1,4 +1,4 @@
--- The rows of an input, and what is printed for each (02, e, 2 and 5): a year, a month and closed dates, in base ten, parted by one space.
+-- The rows of an input, and what is printed for each: a year, a month and closed dates, in base ten, parted by one space.
 use Rattle.rules.specs.Words.{ℕ, _≤_, Bool, cond, _and_, leb, ltb, between, List, [], _∷_, _++_, map, flatMap, length, drop, entry, every, bytes, decimal, digitsValue, partsOf}
 use Rattle.rules.specs.declared.dates.{LastDay.LastDay}
 use Rattle.rules.specs.declared.dates.LastDay.the-variants.{On, Refused}
@@ -19,7 +19,7 @@ fieldsOf text = partsOf 32 (text ++ (32 ∷ []))
 abbrev pub numbersOf : List ℕ → List ℕ
 numbersOf text = map digitsValue (fieldsOf text)
 
--- the most bytes of a row, and a row that is read: it is not longer, and it is two numbers or more
+-- the most bytes of a row, and a row that is read: it is not longer, and it is two numbers or more (02, e, 2)
 abbrev pub rowMost : ℕ
 rowMost = 4_096
 
@@ -31,7 +31,7 @@ unfoldable pub answerRow : LastDay → List ℕ
 answerRow (On d) = row (decimal (numberOfDate d) ∷ [])
 answerRow (Refused number) = row (bytes "refused" ∷ decimal number ∷ [])
 
--- for a row, and for one that is not read
+-- for a row, and for one that is not read (02, e, 2 and 5)
 abbrev pub badRow : List ℕ
 badRow = row (bytes "bad row" ∷ [])
 
@@ -41,6 +41,6 @@ answerTo numbers = answerRow (lastDayAnswer (entry numbers 0) (entry numbers 1) 
 unfoldable pub rowAnswer : List ℕ → List ℕ
 rowAnswer text = cond (rowGood text) (answerTo (numbersOf text)) badRow
 
--- for an input: its rows end in byte 10, the last one also where the input ends
+-- for an input: its rows end in byte 10, the last one also where the input ends (02, e, 2)
 unfoldable pub answersTo : List ℕ → List ℕ
 answersTo input = flatMap rowAnswer (partsOf 10 input)

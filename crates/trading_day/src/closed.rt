@@ -17,7 +17,7 @@ fn allowed(number: u32) -> bool
     in_years & dates::dated(date)
 }
 
-// Whether each closed date is allowed and below the next. None is 0, so the first is held to that (02, e, 5).
+// Whether each closed date is allowed and below the next. No date is 0, so the first has to be above that, as each later one above the one before it (02, e, 5).
 pub fn in_turn(closed: &[u32]) -> bool
     ensures { λ r. ⌜ r ≡ (every closedGood (now (closed .entry)) and ascending (now (closed .entry))) ⌝ }
 {

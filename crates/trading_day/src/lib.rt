@@ -27,12 +27,12 @@ fn closed_good(closed: &[u32]) -> bool
 fn refusal(year: u32, month: u32, closed: &[u32]) -> u8
     ensures { λ r. ⌜ r ≡ LastTradingDay.lastDayNumber year month (now (closed .entry)) ⌝ }
 {
-    let of_a_month = table::in_thirty_years(year, month);
-    let of_closed_dates = closed_good(closed);
-    if !of_a_month {
+    let month_good = table::in_thirty_years(year, month);
+    let dates_good = closed_good(closed);
+    if !month_good {
         return BAD_MONTH;
     }
-    if !of_closed_dates {
+    if !dates_good {
         return BAD_CLOSED;
     }
     ACCEPTED

@@ -8,6 +8,7 @@ use std::path::Path;
 use std::process::ExitCode;
 use wheat_delivery::reading::listing;
 use wheat_delivery::trial::generate;
+use wheat_delivery::trial::random::seeds;
 use wheat_delivery::trial::running::answer;
 
 fn main() -> ExitCode {
@@ -27,20 +28,12 @@ fn compare(arguments: &[String]) -> Result<bool, String> {
     let [program, count, seed, folder] = arguments else {
         return Err("compare PROGRAM COUNT SEED FOLDER".to_string());
     };
-    let bad_count = || format!("COUNT is a whole number above 0, not {count:?}");
-    let count: u64 = count
-        .parse()
-        .ok()
-        .filter(|&count| count > 0)
-        .ok_or_else(bad_count)?;
-    let seed: u64 = seed
-        .parse()
-        .map_err(|_| format!("SEED is a whole number, not {seed:?}"))?;
+    let seeds = seeds(count, seed)?;
     let folder = Path::new(folder);
     fs::create_dir_all(folder).map_err(|error| format!("{}: {error}", folder.display()))?;
     let mut agreeing = 0;
     let mut first = None;
-    for seed in (0..count).map(|i| seed.wrapping_add(i)) {
+    for &seed in &seeds {
         let bytes = generate::file(seed);
         let wanted = listing::listing(&bytes).into_bytes();
         let answer = answer(program, &bytes, folder)?;
@@ -54,7 +47,7 @@ fn compare(arguments: &[String]) -> Result<bool, String> {
             Some(_) => {}
         }
     }
-    println!("{agreeing} of {count} files agree");
+    println!("{agreeing} of {} files agree", seeds.len());
     if let Some(first) = &first {
         println!("first that does not: {first}");
     }

@@ -8,6 +8,7 @@ use std::fs;
 use std::path::Path;
 use std::process::ExitCode;
 use wheat_delivery::reading::rows::{printed, rows};
+use wheat_delivery::trial::random::seeds;
 use wheat_delivery::trial::rows::inputs::{Input, inputs};
 use wheat_delivery::trial::rows::reach::Reach;
 use wheat_delivery::trial::rows::row;
@@ -34,16 +35,7 @@ fn generated(arguments: &[String]) -> Result<Vec<Vec<u8>>, String> {
     let [_, count, seed, _] = arguments else {
         return Err("lastdays PROGRAM COUNT SEED FOLDER".to_string());
     };
-    let bad_count = || format!("COUNT is a whole number above 0, not {count:?}");
-    let count: u64 = count
-        .parse()
-        .ok()
-        .filter(|&count| count > 0)
-        .ok_or_else(bad_count)?;
-    let seed: u64 = seed
-        .parse()
-        .map_err(|_| format!("SEED is a whole number, not {seed:?}"))?;
-    Ok((0..count).map(|i| row(seed.wrapping_add(i))).collect())
+    Ok(seeds(count, seed)?.into_iter().map(row).collect())
 }
 
 /// Whether all inputs agree and, of enough rows, all is reached.

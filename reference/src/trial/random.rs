@@ -50,3 +50,17 @@ impl Random {
         }
     }
 }
+
+/// The seeds from SEED on, COUNT of them, as two arguments ask for them.
+pub fn seeds(count: &str, seed: &str) -> Result<Vec<u64>, String> {
+    let bad_count = || format!("COUNT is a whole number above 0, not {count:?}");
+    let count: u64 = count
+        .parse()
+        .ok()
+        .filter(|&count| count > 0)
+        .ok_or_else(bad_count)?;
+    let seed: u64 = seed
+        .parse()
+        .map_err(|_| format!("SEED is a whole number, not {seed:?}"))?;
+    Ok((0..count).map(|i| seed.wrapping_add(i)).collect())
+}

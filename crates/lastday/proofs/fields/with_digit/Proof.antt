@@ -7,10 +7,10 @@ use Rattle.lastday.proofs.fields.with_digit.Tie as tie
 
 -- past the first test the byte is a digit
 digit : (c : tie.Else1) → isDigit (c .before .args .b) ≡ true
-digit c = not-false _ (c .if1 .left)
+digit c = not-false (isDigit (c .before .args .b)) (c .if1 .left)
 
 returns : tie.Need-returns
-returns c = sym (no-digit (c .before .args .n) (c .before .args .b) (not-true _ (c .if1 .taken)))
+returns c = sym (no-digit (c .before .args .n) (c .before .args .b) (not-true (isDigit (c .before .args .b)) (c .if1 .taken)))
 
 mul-more : tie.Need-mul-more
 mul-more c = search needs
