@@ -1,14 +1,14 @@
 -- The search for the last trading day: what it finds, and that thirteen weeks are enough for 64 closed dates.
-use Rattle.numbers.proofs.Words.{ℕ, zero, suc, _+_, _-_, _%_, _≤_, _<_, add-zero, arith, _≡_, refl, sym, ap, ap₂, _∙_, Bool, true, false, not, cond, _||_, true≢false, false≢true, lt-ltb, List, [], _∷_, length, not-suc-le-zero, ascending, ⊎-elim, leb, _and_, ltb, ltb-true, ltb-false, leb-true, some, every, eqb, counted, gathered, many, not-true, not-false, between}
-use Rattle.numbers.proofs.Tests.{both, below-or-not, or-left, or-right}
+use Rattle.numbers.proofs.Words.{ℕ, zero, suc, _+_, _-_, _%_, _≤_, _<_, add-zero, arith, _≡_, refl, sym, ap, _∙_, Bool, true, false, not, _||_, true≢false, false≢true, lt-ltb, List, [], _∷_, length, not-suc-le-zero, ascending, ⊎-elim, leb, _and_, ltb-true, leb-true, every, counted, gathered, many, between}
+use Rattle.numbers.proofs.Tests.{both, below-or-not}
 use Rattle.numbers.proofs.Ranges.{sum-moved}
 use Rattle.numbers.proofs.Counts.{one, many-same, many-within, many-among}
 use Rattle.rules.specs.declared.dates.{Date.Date}
 use Rattle.rules.specs.Calls.{_if_, first}
-use Rattle.rules.specs.Calendar.{dated, daysBeforeYear, dayNumber, weekday, nextDay, tenthOf, inThirtyYears}
-use Rattle.rules.specs.LastTradingDay.{numberOfDate, dateOfNumber, weekend, closedOn, trading, firstTrading, lastDay, closedGood, closedDatesGood, lastDayNumber, daysAfter, IsLastDay, LastDayShown}
+use Rattle.rules.specs.Calendar.{dated, dayNumber, weekday, nextDay, tenthOf, inThirtyYears}
+use Rattle.rules.specs.LastTradingDay.{numberOfDate, weekend, closedOn, trading, firstTrading, lastDay, closedGood, closedDatesGood, lastDayNumber, daysAfter, IsLastDay, LastDayShown}
 use Rattle.calendar_laws.proofs.Years.{year-days, month-between, year-more}
-use Rattle.calendar_laws.proofs.Days.{Dated, dated-told, told-dated, gregorian}
+use Rattle.calendar_laws.proofs.Days.{dated-told, told-dated, gregorian}
 use Rattle.calendar_laws.proofs.Tenths.{within-table}
 use Rattle.calendar_laws.proofs.Order.{years-rise, in-year, own-number, in-order, same-day}
 

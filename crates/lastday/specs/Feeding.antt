@@ -1,5 +1,5 @@
 -- An input that comes in pieces: what is printed as its bytes come, and what is kept of the row that has not ended.
-use Rattle.rules.specs.Words.{ℕ, _≤_, _≡_, Bool, cond, eqb, List, [], _∷_, _++_, length, take}
+use Rattle.rules.specs.Words.{ℕ, _≤_, _≡_, cond, eqb, List, [], _∷_, _++_, length, take}
 use Rattle.listing.specs.Laid.{Laid}
 use Rattle.lastday.specs.Rows.{rowAnswer}
 

@@ -1,5 +1,5 @@
 -- The fields of a row one after the other, and the digits of a field, as they are read.
-use Rattle.rules.specs.Words.{ℕ, suc, _+_, _-_, _*_, min, _≤_, _≡_, Bool, true, cond, eqb, List, [], _∷_, length, take, every, digitsValue}
+use Rattle.rules.specs.Words.{ℕ, suc, _+_, _-_, _*_, min, _≤_, _≡_, true, cond, eqb, List, [], _∷_, length, take, every, digitsValue}
 use Rattle.lastday.specs.Rows.{isDigit, isNumber, fieldsOf, numbersOf}
 
 -- one more than the largest number stands for a field that is none

@@ -1,5 +1,5 @@
 -- The rows of an input, and what is printed for each: a year, a month and closed dates, in base ten, parted by one space.
-use Rattle.rules.specs.Words.{ℕ, _≤_, Bool, cond, _and_, leb, ltb, between, List, [], _∷_, _++_, map, flatMap, length, drop, entry, every, bytes, decimal, digitsValue, partsOf}
+use Rattle.rules.specs.Words.{ℕ, Bool, cond, _and_, leb, ltb, between, List, [], _∷_, _++_, map, flatMap, length, drop, entry, every, bytes, decimal, digitsValue, partsOf}
 use Rattle.rules.specs.declared.dates.{LastDay.LastDay}
 use Rattle.rules.specs.declared.dates.LastDay.the-variants.{On, Refused}
 use Rattle.rules.specs.Listing.{row}

@@ -1,5 +1,5 @@
 -- The digits of a field, read one after the other, give the number in it.
-use Rattle.numbers.proofs.Words.{ℕ, _+_, _-_, _*_, _≤_, _<_, min, arith, _≡_, refl, sym, ap, ap₂, _∙_, Bool, true, false, cond, _&&_, and-false, List, [], _∷_, drop, drop-of-length-le, length, ⊎-elim, ltb, lt-ltb, le-ltb, ltb-true, _and_, every}
+use Rattle.numbers.proofs.Words.{ℕ, _+_, _-_, _*_, _≤_, _<_, min, arith, _≡_, refl, sym, ap, _∙_, Bool, true, false, cond, _&&_, and-false, List, [], _∷_, drop, drop-of-length-le, length, ⊎-elim, ltb, lt-ltb, le-ltb, ltb-true, _and_, every}
 use Rattle.numbers.specs.Text.{digitsAfter, digitsValue}
 use Rattle.numbers.proofs.Tests.{both, below-or-not}
 use Rattle.numbers.proofs.Lists.{Has, from-here}

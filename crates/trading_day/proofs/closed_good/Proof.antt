@@ -1,4 +1,4 @@
-use Rattle.numbers.proofs.Words.{Bool, _&&_, sym, ap, _∙_, _and_, length, every, ascending, leb, le-leb, lt-leb, now, needs}
+use Rattle.numbers.proofs.Words.{Bool, sym, ap, _∙_, _and_, length, every, ascending, leb, le-leb, lt-leb, now, needs}
 use Rattle.numbers.proofs.Tests.{fails-left}
 use Rattle.rules.specs.LastTradingDay.{closedGood}
 use Rattle.trading_day.proofs.closed_good.Statement.{statement}

@@ -1,4 +1,4 @@
-use Rattle.numbers.proofs.Words.{ℕ, _+_, Bool, cond, sym, ap, eq-eqb, ne-eqb, needs}
+use Rattle.numbers.proofs.Words.{_+_, Bool, cond, sym, ap, eq-eqb, ne-eqb, needs}
 use Rattle.rules.specs.Calendar.{nextWeekday}
 use Rattle.calendar.proofs.dates.next_weekday.Statement.{statement}
 use Rattle.calendar.proofs.dates.next_weekday.Tie as tie

@@ -1,4 +1,4 @@
-use Rattle.numbers.proofs.Words.{_-_, take, arith, sym, _∙_, length, now, needs}
+use Rattle.numbers.proofs.Words.{_-_, take, arith, sym, _∙_, length, now}
 use Rattle.numbers.proofs.Lists.{has}
 use Rattle.lastday.proofs.Laws.Feeding.{Feeding, feeding-start, feeding-room, feeding-next, feeding-length, feeding-end}
 use Rattle.lastday.proofs.feed.piece.Statement.{statement}

@@ -1,4 +1,4 @@
-use Rattle.numbers.proofs.Words.{arith, _≡_, ap, _∙_, length, now, needs}
+use Rattle.numbers.proofs.Words.{arith, _≡_, ap, length, now, needs}
 use Rattle.lastday.specs.Rows.{answerRow, rowAnswer}
 use Rattle.lastday.proofs.Laws.Answers.{long-row, few-numbers, answer-read, row-most}
 use Rattle.lastday.proofs.rows.answer_to.Statement.{statement}

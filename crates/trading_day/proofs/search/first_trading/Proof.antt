@@ -1,5 +1,5 @@
-use Rattle.numbers.proofs.Words.{_-_, arith, _≡_, ap, _∙_, true, false, not, now, needs}
-use Rattle.numbers.proofs.Tests.{failed, passed}
+use Rattle.numbers.proofs.Words.{_-_, arith, _≡_, _∙_, not, now, needs}
+use Rattle.numbers.proofs.Tests.{passed}
 use Rattle.rules.specs.LastTradingDay.{trading}
 use Rattle.trading_day.proofs.Laws.Walk.{Given, Walk, walk-start, walk-stop, walk-next, walk-end, weekday-most, year-most, trading-now}
 use Rattle.trading_day.proofs.search.first_trading.Statement.{statement}
