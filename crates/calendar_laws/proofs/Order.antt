@@ -59,7 +59,7 @@ module _ (d e : Date) (h : Dated d) (k : Dated e) where
       omega (arith, ap daysBeforeYear year, months, h .day-least)
 
   -- so a lower number is a sooner date
-  pub sooner-date : numberOfDate d < numberOfDate e → dayNumber d < dayNumber e
+  sooner-date : numberOfDate d < numberOfDate e → dayNumber d < dayNumber e
   unfolding numberOfDate
   sooner-date lower =
       ⊎-elim by-year

@@ -27,7 +27,7 @@ unfoldable pub signedDecimal : ℤ → List ℕ
 signedDecimal (pos n) = decimal n
 signedDecimal (negsuc n) = 45 ∷ decimal (n + 1)
 
--- the number that digits in ASCII stand for, after a number in front of them; of digits alone it is 0
+-- the number that digits in ASCII stand for, after a number that stands in front of them; in front of digits alone stands 0
 unfoldable pub digitsAfter : ℕ → List ℕ → ℕ
 digitsAfter n [] = n
 digitsAfter n (digit ∷ digits) = digitsAfter (10 * n + (digit - 48)) digits
