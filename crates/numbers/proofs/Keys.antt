@@ -17,13 +17,13 @@ module _ (base x y u v : ℕ) where
 
 module _ (base x y u v : ℕ) (below : u < base) (below′ : v < base) where
   -- the parts are read back
-  high-same : two base x u ≡ two base y v → x ≡ y
+  pub high-same : two base x u ≡ two base y v → x ≡ y
   high-same e =
       ⊎-elim (λ (h : x < y). absurd (omega (arith, e, lower base x y u v below h)))
       (λ (h : y ≤ x). ⊎-elim (λ (k : y < x). absurd (omega (arith, e, lower base y x v u below′ k))) (λ (k : x ≤ y). omega (arith, h, k)) (below-or-not y x))
       (below-or-not x y)
 
-  low-same : x ≡ y → two base x u ≡ two base y v → u ≡ v
+  pub low-same : x ≡ y → two base x u ≡ two base y v → u ≡ v
   low-same h e = omega (arith, e, ap (λ (a : ℕ). a * base) h)
 
   pub two-same : (eqb x y && eqb u v) ≡ eqb (two base x u) (two base y v)
