@@ -2,7 +2,7 @@
 use Rattle.rules.specs.Words.{ℕ, Bool, cond, _and_, leb, ltb, between, List, [], _∷_, _++_, map, flatMap, length, drop, entry, every, bytes, decimal, digitsValue, partsOf}
 use Rattle.rules.specs.declared.dates.{LastDay.LastDay}
 use Rattle.rules.specs.declared.dates.LastDay.the-variants.{On, Refused}
-use Rattle.rules.specs.Listing.{row}
+use Rattle.rules.specs.Listing.{row, refusalRow}
 use Rattle.rules.specs.LastTradingDay.{numberOfDate, lastDayAnswer}
 
 -- a number: one digit or more, and within 32 bits
@@ -29,7 +29,7 @@ rowGood text = leb (length text) rowMost and every isNumber (fieldsOf text) and 
 -- what is printed: the date as one number, or the refusal (02, e, 2 and 5)
 unfoldable pub answerRow : LastDay → List ℕ
 answerRow (On d) = row (decimal (numberOfDate d) ∷ [])
-answerRow (Refused number) = row (bytes "refused" ∷ decimal number ∷ [])
+answerRow (Refused number) = refusalRow number
 
 -- for a row, and for one that is not read (02, e, 2 and 5)
 abbrev pub badRow : List ℕ

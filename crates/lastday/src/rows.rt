@@ -7,7 +7,6 @@ use crate::fields::NUMBERS_MOST;
 use crate::fields::ROW_BYTES;
 use listing::text;
 use listing::text::LINE_END;
-use listing::text::SPACE;
 use rules::dates::LastDay;
 use trading_day::numbered;
 
@@ -29,10 +28,7 @@ fn answered(answer: LastDay, out: &mut [u8], at: usize) -> usize
             let number = numbered::number_of(date);
             text::number(number, LINE_END, out, at)
         }
-        LastDay::Refused(number) => {
-            let next = text::word(b"refused", SPACE, out, at);
-            text::number(number as u64, LINE_END, out, next)
-        }
+        LastDay::Refused(number) => listing::refusal(number, out, at),
     }
 }
 

@@ -1,6 +1,8 @@
 // What the program prints, written into a lent buffer.
-ghost use Rattle.rules.specs.Words.{ℕ, _≡_, _≤_, _<_, length, entry, over};
+ghost use Rattle.rules.specs.Words.{ℕ, _≡_, _+_, _≤_, _<_, length, entry, over};
+ghost use Rattle.rules.specs.Listing.{refusalRow};
 ghost use Rattle.listing.specs.Columns.{refusedRow, listing};
+ghost use Rattle.listing.specs.Laid.{Laid};
 use rules::book::Book;
 
 mod codes;
@@ -59,4 +61,12 @@ pub fn refused(number: u8, place: usize, out: &mut [u8]) -> usize
     let at = text::word(b"refused", text::SPACE, out, 0);
     let at = text::number(number as u64, text::SPACE, out, at);
     text::number(place as u64, text::LINE_END, out, at)
+}
+
+// A refusal's row where it has no place: its number alone. It answers the next place (02, e, 5; 02, l, 4).
+pub fn refusal(number: u8, out: &mut [u8], at: usize) -> usize
+    requires { ⌜ at + length (refusalRow number) ≤ length (now out) ⌝ }
+    ensures { λ r. ⌜ Laid (now (out .entry)) at (refusalRow number) (now (out .exit)) r ⌝ }
+{
+    text::row(b"refused", number as u64, out, at)
 }

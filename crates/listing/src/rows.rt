@@ -15,8 +15,7 @@ pub fn head(lines: usize, out: &mut [u8]) -> usize
     requires { ⌜ length (headRow lines) ≤ length (now out) ⌝ }
     ensures { λ r. ⌜ Laid (now (out .entry)) 0 (headRow lines) (now (out .exit)) r ⌝ }
 {
-    let at = text::word(b"register", SPACE, out, 0);
-    text::number(lines as u64, LINE_END, out, at)
+    text::row(b"register", lines as u64, out, 0)
 }
 
 // Lots become tonnes by the lot size alone (01, Head, 4; 01, Forms, 4).

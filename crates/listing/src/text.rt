@@ -1,5 +1,6 @@
 // Texts and numbers, each with the byte that ends it, written into a buffer from a place on. Each answers the next place.
-ghost use Rattle.rules.specs.Words.{_+_, _*_, _≤_, _<_, length, decimal, signedDecimal};
+ghost use Rattle.rules.specs.Words.{_+_, _*_, _≤_, _<_, [], _∷_, length, decimal, signedDecimal};
+ghost use Rattle.rules.specs.Listing.{row};
 ghost use Rattle.listing.specs.Columns.{codeAt, field};
 ghost use Rattle.listing.specs.Laid.{Laid};
 use crate::digits;
@@ -50,6 +51,15 @@ pub fn number(n: u64, end: u8, out: &mut [u8], at: usize) -> usize
     let next = decimal_digits(n, out, at);
     out[next] = end;
     next + 1
+}
+
+// A row of a word and a number (01, Program, 3).
+pub fn row(name: &[u8], n: u64, out: &mut [u8], at: usize) -> usize
+    requires { ⌜ at + length (row (now name ∷ decimal n ∷ [])) ≤ length (now out) ⌝ }
+    ensures { λ r. ⌜ Laid (now (out .entry)) at (row (now (name .entry) ∷ decimal n ∷ [])) (now (out .exit)) r ⌝ }
+{
+    let next = word(name, SPACE, out, at);
+    number(n, LINE_END, out, next)
 }
 
 // With a minus sign where it is below 0.

@@ -4,7 +4,7 @@ use Rattle.numbers.specs.Text.{bytes, decimal}
 use Rattle.numbers.proofs.Tests.{fails-left, fails-right, together}
 use Rattle.rules.specs.declared.dates.{Date.Date, LastDay.LastDay}
 use Rattle.rules.specs.declared.dates.LastDay.the-variants.{On, Refused}
-use Rattle.rules.specs.Listing.{row}
+use Rattle.rules.specs.Listing.{row, refusalRow}
 use Rattle.rules.specs.Calls.{_if_, first}
 use Rattle.rules.specs.LastTradingDay.{numberOfDate, lastDay, closedDatesGood, lastDayNumber, lastDayAnswer}
 use Rattle.rules.specs.Calendar.{inThirtyYears}
@@ -12,7 +12,6 @@ use Rattle.calendar_laws.proofs.Days.{dated-told}
 use Rattle.calendar_laws.proofs.Order.{day-limit}
 use Rattle.calendar_laws.proofs.Search.{last-day-shown}
 use Rattle.listing.specs.{Columns.field, Laid.Laid}
-use Rattle.listing.proofs.Laws.Laid.{laid-then}
 use Rattle.listing.proofs.Laws.Most.{decimal-most}
 use Rattle.lastday.specs.Rows.{isNumber, fieldsOf, numbersOf, rowGood, answerRow, badRow, answerTo, rowAnswer}
 use Rattle.lastday.specs.Fields.{NumbersRead}
@@ -95,14 +94,13 @@ module _ {answer : LastDay} {d : Date} {n : ℕ} (is : answer ≡ On d) (e : n �
 
 -- an answer that is a refusal
 module _ {answer : LastDay} {number : ℕ} (is : answer ≡ Refused number) where
-  pub refused-room : (at : ℕ) {room : ℕ} → at + length (answerRow answer) ≤ room → at + 8 + length (decimal number) < room
-  refused-room at h = omega (arith, h, ap (λ (a : LastDay). length (answerRow a)) is, refused-length number)
+  pub refused-room : (at : ℕ) {room : ℕ} → at + length (answerRow answer) ≤ room → at + length (refusalRow number) ≤ room
+  unfolding answerRow
+  refused-room at h = omega (arith, h, ap (λ (a : LastDay). length (answerRow a)) is)
 
-  pub refused-laid : {was mid now : List ℕ} {at next last : ℕ} → at + 8 ≤ length was → Laid was at (field (bytes "refused") 32) mid next → Laid mid next (field (decimal number) 10) now last
-      → Laid was at (answerRow answer) now last
-  unfolding answerRow row bytes
-  refused-laid {was} {mid} {now} {at} {next} {last} room first second =
-      subst (λ (text : List ℕ). Laid was at text now last) (sym (ap answerRow is)) (laid-then (field (bytes "refused") 32) (field (decimal number) 10) first room second)
+  pub refused-laid : {was now : List ℕ} {at next : ℕ} → Laid was at (refusalRow number) now next → Laid was at (answerRow answer) now next
+  unfolding answerRow
+  refused-laid {was} {now} {at} {next} = subst (λ (text : List ℕ). Laid was at text now next) (sym (ap answerRow is))
 
 -- no refusal is above 31, and the number of no last trading day has more than eight digits
 number-most : (year month : ℕ) (closed : List ℕ) → lastDayNumber year month closed ≤ 31

@@ -1,6 +1,4 @@
-use Rattle.numbers.proofs.Words.{arith, needs}
-use Rattle.numbers.specs.Text.{bytes}
-use Rattle.listing.proofs.Laws.Laid.{laid-length}
+use Rattle.numbers.proofs.Words.{needs}
 use Rattle.lastday.proofs.Laws.Answers.{on-room, on-laid, refused-room, refused-laid}
 use Rattle.lastday.proofs.rows.answered.Statement.{statement}
 use Rattle.lastday.proofs.rows.answered.Tie as tie
@@ -20,26 +18,11 @@ number-requires c κs =
 enum-known-answer-2 : tie.Need-enum-known-answer-2
 enum-known-answer-2 c = search needs
 
-slice-aggregate-word : tie.Need-slice-aggregate-word
-slice-aggregate-word c = search needs
-
-word-requires : tie.Need-word-requires
-word-requires c κs =
-    let told = c .before .before .before in
+refusal-requires : tie.Need-refusal-requires
+refusal-requires c κs =
+    let told = c .before .before in
     let start = told .before .before .before in
-    let room = refused-room (told .answer2 .given .1) (start .args .at) (start .pre) in
-    omega (arith, room)
-
-cast-number : tie.Need-cast-number
-cast-number c = search needs
-
-number-requires-2 : tie.Need-number-requires-2
-number-requires-2 c κs =
-    let word = c .before .before .before in
-    let told = word .before .before .before .before in
-    let start = told .before .before .before in
-    let room = refused-room (told .answer2 .given .1) (start .args .at) (start .pre) in
-    omega (arith, room, word .word .ensures .ends, laid-length _ (word .word .ensures) (omega (arith, room)))
+    refused-room (told .answer2 .given .1) (start .args .at) (start .pre)
 
 same-length : tie.Need-same-length
 same-length c = search needs
@@ -54,14 +37,10 @@ same-length-2 : tie.Need-same-length-2
 same-length-2 c = search needs
 
 returns-2 : tie.Need-returns-2
-unfolding bytes
 returns-2 c =
-    let number = c .before .before in
-    let word = number .before .before .before .before in
-    let told = word .before .before .before .before in
-    let start = told .before .before .before in
-    let room = refused-room (told .answer2 .given .1) (start .args .at) (start .pre) in
-    refused-laid (told .answer2 .given .1) (omega (arith, room)) (word .word .ensures) (number .number2 .ensures)
+    let refusal = c .before .before in
+    let told = refusal .before .before .before in
+    refused-laid (told .answer2 .given .1) (refusal .refusal .ensures)
 
 pub answered-spec : {M : Type 1} → statement M
 answered-spec =
@@ -71,10 +50,7 @@ answered-spec =
     number-of-requires
     number-requires
     enum-known-answer-2
-    slice-aggregate-word
-    word-requires
-    cast-number
-    number-requires-2
+    refusal-requires
     same-length
     returns
     same-length-2
