@@ -1,7 +1,10 @@
 //! The rows for the program `lastday`, and the comparison over them.
 
-use std::path::PathBuf;
-use std::process::{Command, Output};
+mod common;
+
+use common::programs::{compared, folder};
+use std::path::{Path, PathBuf};
+use std::process::Output;
 use wheat_delivery::reading::rows::printed;
 use wheat_delivery::trial::rows::reach::Reach;
 use wheat_delivery::trial::rows::row;
@@ -9,36 +12,13 @@ use wheat_delivery::trial::rows::row;
 const LASTDAY: &str = env!("CARGO_BIN_EXE_lastday");
 const LASTDAYS: &str = env!("CARGO_BIN_EXE_lastdays");
 
-/// A folder of this test's own.
-fn folder(name: &str) -> PathBuf {
-    let folder = PathBuf::from(env!("CARGO_TARGET_TMPDIR")).join(name);
-    let _ = std::fs::remove_dir_all(&folder);
-    folder
+fn lastdays(program: &str, count: &str, seed: &str, folder: &Path) -> Output {
+    compared(LASTDAYS, program, count, seed, folder)
 }
 
-fn lastdays(program: &str, count: &str, seed: &str, folder: &PathBuf) -> Output {
-    Command::new(LASTDAYS)
-        .args([program, count, seed])
-        .arg(folder)
-        .output()
-        .unwrap()
-}
-
-/// What the comparison with a script of the shell prints. It must fail.
 #[cfg(unix)]
 fn difference(name: &str, script: &str) -> String {
-    let folder = folder(name);
-    std::fs::create_dir_all(&folder).unwrap();
-    let program = folder.join("program").display().to_string();
-    let script = format!("#!/bin/sh\n{}\n", script.replace("LASTDAY", LASTDAY));
-    let write = "printf %s \"$2\" > \"$1\" && chmod +x \"$1\"";
-    let written = Command::new("/bin/sh")
-        .args(["-c", write, "sh", &program, &script])
-        .status();
-    assert!(written.unwrap().success());
-    let output = lastdays(&program, "40", "1", &folder);
-    assert_eq!(output.status.code(), Some(1), "{name}");
-    String::from_utf8(output.stdout).unwrap()
+    common::programs::difference(LASTDAYS, name, &script.replace("LASTDAY", LASTDAY))
 }
 
 fn rows(seed: u64, count: u64) -> Vec<Vec<u8>> {

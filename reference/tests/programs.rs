@@ -1,8 +1,10 @@
 //! The programs: what they print and how they end.
 
-use std::io::Write;
-use std::path::PathBuf;
-use std::process::{Command, Output, Stdio};
+mod common;
+
+use common::programs::{compared, folder, given};
+use std::path::Path;
+use std::process::{Command, Output};
 use wheat_delivery::reading::listing::listing;
 use wheat_delivery::trial::examples::examples;
 use wheat_delivery::trial::generate;
@@ -15,31 +17,12 @@ const TENTHS: &str = env!("CARGO_BIN_EXE_tenths");
 const GENERATE: &str = env!("CARGO_BIN_EXE_generate");
 const CHECK: &str = env!("CARGO_BIN_EXE_check");
 
-/// A folder of this test's own.
-fn folder(name: &str) -> PathBuf {
-    let folder = PathBuf::from(env!("CARGO_TARGET_TMPDIR")).join(name);
-    let _ = std::fs::remove_dir_all(&folder);
-    folder
-}
-
 fn list(file: &[u8]) -> Output {
-    let mut child = Command::new(LISTING)
-        .stdin(Stdio::piped())
-        .stdout(Stdio::piped())
-        .stderr(Stdio::piped())
-        .spawn()
-        .unwrap();
-    child.stdin.take().unwrap().write_all(file).unwrap();
-    child.wait_with_output().unwrap()
+    given(LISTING, &[], file)
 }
 
-fn compare(program: &str, count: &str, seed: &str, folder: &PathBuf) -> Output {
-    let arguments = [program, count, seed];
-    Command::new(COMPARE)
-        .args(arguments)
-        .arg(folder)
-        .output()
-        .unwrap()
+fn compare(program: &str, count: &str, seed: &str, folder: &Path) -> Output {
+    compared(COMPARE, program, count, seed, folder)
 }
 
 #[test]

@@ -30,7 +30,7 @@ fn cases(arguments: &[String]) -> Result<bool, String> {
     let cases = unstarred();
     let mut differing = Vec::new();
     for case in &cases {
-        let answer = answer(program, &case.file(), folder)?;
+        let answer = answer(program, &[], &case.file(), folder)?;
         if let Some(what) = answer.unlike(case.prints.as_bytes()) {
             differing.push(format!("{}: {what}", case.claim));
         }

@@ -9,7 +9,7 @@ use std::process::ExitCode;
 use wheat_delivery::reading::listing;
 use wheat_delivery::trial::generate;
 use wheat_delivery::trial::random::seeds;
-use wheat_delivery::trial::running::answer;
+use wheat_delivery::trial::running::{answer, keep};
 
 fn main() -> ExitCode {
     let arguments: Vec<String> = std::env::args().skip(1).collect();
@@ -36,11 +36,12 @@ fn compare(arguments: &[String]) -> Result<bool, String> {
     for &seed in &seeds {
         let bytes = generate::file(seed);
         let wanted = listing::listing(&bytes).into_bytes();
-        let answer = answer(program, &bytes, folder)?;
+        let answer = answer(program, &[], &bytes, folder)?;
         match answer.unlike(&wanted) {
             None => agreeing += 1,
             Some(what) if first.is_none() => {
-                let kept = keep(folder, seed, [&bytes, &wanted, &answer.output])?;
+                let both = [&bytes[..], &wanted, &answer.output];
+                let kept = keep(folder, &seed.to_string(), "events", both)?;
                 let kind = generate::kind(seed);
                 first = Some(format!("seed {seed} ({kind:?}), {what}; kept: {kept}"));
             }
@@ -52,13 +53,4 @@ fn compare(arguments: &[String]) -> Result<bool, String> {
         println!("first that does not: {first}");
     }
     Ok(first.is_none())
-}
-
-/// Keeps the file of a seed and what both sides made of it; returns where.
-fn keep(folder: &Path, seed: u64, bytes: [&[u8]; 3]) -> Result<String, String> {
-    for (ending, bytes) in ["events", "reference", "program"].iter().zip(bytes) {
-        let path = folder.join(format!("{seed}.{ending}"));
-        fs::write(&path, bytes).map_err(|error| format!("{}: {error}", path.display()))?;
-    }
-    Ok(folder.join(format!("{seed}.events")).display().to_string())
 }

@@ -8,10 +8,12 @@ use std::fs;
 use std::path::Path;
 use std::process::ExitCode;
 use wheat_delivery::reading::rows::{printed, rows};
+use wheat_delivery::trial::input::Input;
 use wheat_delivery::trial::random::seeds;
-use wheat_delivery::trial::rows::inputs::{Input, inputs};
+use wheat_delivery::trial::rows::inputs::inputs;
 use wheat_delivery::trial::rows::reach::Reach;
 use wheat_delivery::trial::rows::row;
+use wheat_delivery::trial::running::keep;
 
 /// So many rows reach everything.
 const ENOUGH: usize = 2_000;
@@ -69,7 +71,7 @@ impl Tally {
     /// reading's. Whether the program ended well; if not, it is given no more.
     fn add(&mut self, program: &str, folder: &Path, input: &Input) -> Result<bool, String> {
         let wanted = printed(&input.bytes).into_bytes();
-        let answer = input.given_to(program, folder)?;
+        let answer = input.given_to(program, &[], folder)?;
         let (own, theirs) = (with_ends(&wanted), with_ends(&answer.output));
         self.rows += own.len();
         self.agreeing += own.iter().zip(&theirs).filter(|(a, b)| a == b).count();
@@ -77,7 +79,8 @@ impl Tally {
         let trouble = answer.trouble();
         let what: Vec<String> = trouble.iter().cloned().chain(difference).collect();
         if self.first.is_none() && !what.is_empty() {
-            let kept = keep(folder, [&input.bytes, &wanted, &answer.output])?;
+            let both = [&input.bytes[..], &wanted, &answer.output];
+            let kept = keep(folder, "lastdays", "rows", both)?;
             let what = what.join("; ");
             self.first = Some(format!("{}, {what}; kept: {kept}", input.name));
         }
@@ -109,13 +112,4 @@ fn quoted(row: Option<&[u8]>) -> String {
         }
         Some(row) => text(row),
     }
-}
-
-/// Keeps an input and what both sides made of it; returns where.
-fn keep(folder: &Path, bytes: [&[u8]; 3]) -> Result<String, String> {
-    for (ending, bytes) in ["rows", "reference", "program"].iter().zip(bytes) {
-        let path = folder.join(format!("lastdays.{ending}"));
-        fs::write(&path, bytes).map_err(|error| format!("{}: {error}", path.display()))?;
-    }
-    Ok(folder.join("lastdays.rows").display().to_string())
 }

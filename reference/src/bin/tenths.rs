@@ -33,6 +33,6 @@ fn compared(arguments: &[String]) -> Result<Option<String>, String> {
     };
     let folder = Path::new(folder);
     fs::create_dir_all(folder).map_err(|error| format!("{}: {error}", folder.display()))?;
-    let answer = answer(program, b"", folder)?;
+    let answer = answer(program, &[], b"", folder)?;
     Ok(answer.unlike(calendar::tenths().as_bytes()))
 }

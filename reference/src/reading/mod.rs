@@ -1,9 +1,10 @@
 //! What the papers say of the book, its calls, expiry, the file and the listing,
-//! of the calendar and of the last trading day.
+//! of the calendar, of the last trading day and of the operands by column.
 
 pub mod book;
 pub mod calendar;
 pub mod calls;
+pub mod columns;
 pub mod expiry;
 pub mod file;
 pub mod last_day;

@@ -11,30 +11,41 @@ use std::time::Duration;
 
 /// How long a program may take over one file.
 const PATIENCE: Duration = Duration::from_secs(20);
-/// More than any listing has, or the rows that are printed for an input.
+/// More than any listing or file has, or the rows that are printed for an input.
 const MOST_OUTPUT: u64 = 1 << 20;
 /// Enough for a program to have read the piece before.
 const PAUSE: Duration = Duration::from_millis(1);
 
-/// What the program answers to a file. Each run has a file of its own to lend,
-/// in the folder.
-pub fn answer(program: &str, bytes: &[u8], folder: &Path) -> Result<Answer, String> {
+/// What the program, with these arguments, answers to a file. Each run has a
+/// file of its own to lend, in the folder.
+pub fn answer(
+    program: &str,
+    arguments: &[&str],
+    bytes: &[u8],
+    folder: &Path,
+) -> Result<Answer, String> {
     let path = folder.join(format!("run-{}.events", std::process::id()));
     let at_path = |error: io::Error| format!("{}: {error}", path.display());
     fs::write(&path, bytes).map_err(at_path)?;
     let lent = File::open(&path).map_err(at_path)?;
-    let answer = start(program, lent.into())
+    let answer = start(program, arguments, lent.into())
         .and_then(finish)
         .map_err(|error| cannot_be_run(program, error));
     fs::remove_file(&path).map_err(at_path)?;
     answer
 }
 
-/// What the program answers to bytes that come through a pipe, in pieces and
-/// with a pause before each. A program that stops reading is given no more.
-pub fn answer_to_pieces(program: &str, bytes: &[u8], piece: usize) -> Result<Answer, String> {
+/// What the program, with these arguments, answers to bytes that come through a
+/// pipe, in pieces and with a pause before each. A program that stops reading is
+/// given no more.
+pub fn answer_to_pieces(
+    program: &str,
+    arguments: &[&str],
+    bytes: &[u8],
+    piece: usize,
+) -> Result<Answer, String> {
     let failed = |error| cannot_be_run(program, error);
-    let mut child = start(program, Stdio::piped()).map_err(failed)?;
+    let mut child = start(program, arguments, Stdio::piped()).map_err(failed)?;
     let pipe = child.stdin.take();
     let bytes = bytes.to_vec();
     thread::spawn(move || {
@@ -97,6 +108,30 @@ impl Answer {
             Some(true) => None,
         }
     }
+
+    /// Why this does not turn the arguments away: nothing on standard output and
+    /// something on standard error, whatever the status.
+    pub fn not_turned_away(&self) -> Option<String> {
+        let why = match (self.ended, self.output.len(), self.errors.len()) {
+            (None, ..) => "the program did not end",
+            (_, 1.., _) => "the program printed something",
+            (_, _, 0) => "the program wrote nothing to standard error",
+            _ => return None,
+        };
+        Some(why.to_string())
+    }
+}
+
+/// Keeps an input and what both sides made of it, under one name; returns where.
+pub fn keep(folder: &Path, name: &str, ending: &str, bytes: [&[u8]; 3]) -> Result<String, String> {
+    for (ending, bytes) in [ending, "reference", "program"].iter().zip(bytes) {
+        let path = folder.join(format!("{name}.{ending}"));
+        fs::write(&path, bytes).map_err(|error| format!("{}: {error}", path.display()))?;
+    }
+    Ok(folder
+        .join(format!("{name}.{ending}"))
+        .display()
+        .to_string())
 }
 
 /// A row as text, its start if it is long.
@@ -104,9 +139,10 @@ fn quoted(row: &[u8]) -> String {
     format!("{:?}", String::from_utf8_lossy(&row[..row.len().min(60)]))
 }
 
-/// Starts the program with that on standard input.
-fn start(program: &str, input: Stdio) -> io::Result<Child> {
+/// Starts the program with these arguments and with that on standard input.
+fn start(program: &str, arguments: &[&str], input: Stdio) -> io::Result<Child> {
     Command::new(program)
+        .args(arguments)
         .stdin(input)
         .stdout(Stdio::piped())
         .stderr(Stdio::piped())

@@ -1,5 +1,7 @@
-//! Books and files that several tests use.
+//! Books and files that several tests use, and programs that they run.
 #![allow(dead_code)]
+
+pub mod programs;
 
 use wheat_delivery::reading::book::{Book, Notice, Section, SessionKind};
 use wheat_delivery::reading::calls::{Counts, ExpiryLists, open};

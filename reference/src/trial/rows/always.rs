@@ -3,11 +3,12 @@
 
 use super::draft::Draft;
 use super::edges::closed_for;
-use super::inputs::{Input, ended};
+use super::inputs::ended;
 use super::runs::run;
 use crate::reading::calendar::days_of_month;
 use crate::reading::last_day::CLOSED;
 use crate::reading::rows::ROW;
+use crate::trial::input::Input;
 use crate::trial::random::Random;
 
 pub(super) fn always() -> Vec<Input> {

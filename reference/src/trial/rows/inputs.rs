@@ -1,40 +1,12 @@
 //! The inputs in which rows are given to a program.
 
 use super::always::always;
-use crate::trial::running::{Answer, answer, answer_to_pieces};
-use std::path::Path;
+use crate::trial::input::Input;
 
 /// The most rows of one input.
 const TOGETHER: usize = 10_000;
 /// The first rows, every form among them, are given in inputs of their own too.
 const ALONE: usize = 400;
-/// The bytes of a piece that goes through a pipe.
-const PIECE: usize = 700;
-
-/// An input, and whether it comes through a pipe in pieces.
-pub struct Input {
-    pub name: String,
-    pub bytes: Vec<u8>,
-    in_pieces: bool,
-}
-
-impl Input {
-    pub(super) fn new(name: impl Into<String>, bytes: Vec<u8>) -> Input {
-        Input {
-            name: name.into(),
-            bytes,
-            in_pieces: false,
-        }
-    }
-
-    /// What a program answers to it.
-    pub fn given_to(&self, program: &str, folder: &Path) -> Result<Answer, String> {
-        match self.in_pieces {
-            true => answer_to_pieces(program, &self.bytes, PIECE),
-            false => answer(program, &self.bytes, folder),
-        }
-    }
-}
 
 /// All rows together; then the first ones in pieces and alone; then the inputs
 /// that are always given.
