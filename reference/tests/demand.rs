@@ -9,26 +9,38 @@ use wheat_delivery::reading::file::{self, Reader, whole};
 use wheat_delivery::reading::listing::Lists;
 use wheat_delivery::reading::refusal::Refusal;
 use wheat_delivery::reading::value::{factor, value};
-use wheat_delivery::trial::demand::{Call, Expiry, History, Outcome, run};
-use wheat_delivery::trial::generate::lists::{self, FULL};
+use wheat_delivery::trial::demand::block::Block;
+use wheat_delivery::trial::demand::{Call, Ending, Expiry, History, Outcome, Single, run};
+use wheat_delivery::trial::generate::lists::{self, FULL, singly, with_blocks};
+use wheat_delivery::trial::generate::unruly::unruly;
 use wheat_delivery::trial::generate::{self, Contract};
-use wheat_delivery::trial::hand::worked;
+use wheat_delivery::trial::hand::{trade, worked};
+
+fn ending(contract: Contract, calls: &[Call]) -> Option<Ending> {
+    let Contract { lot, w, r } = contract;
+    run(lot, w, r, calls).unwrap()
+}
 
 /// The history of the list of calls of a seed, where it has one.
 fn history(seed: u64) -> Option<History> {
     let (contract, calls) = lists::calls(seed, &generate::file(seed))?;
-    run(contract.lot, contract.w, contract.r, &calls).unwrap()
+    let calls = with_blocks(seed, &calls);
+    ending(contract, &calls).map(|ending| ending.history)
+}
+
+/// The calls of some events, with lists that are never short.
+fn full(events: &[Event]) -> Vec<Call> {
+    let single = |&event: &Event| Single {
+        event,
+        lengths: FULL,
+    };
+    singly(&events.iter().map(single).collect::<Vec<_>>())
 }
 
 /// The history of the fifteen events checked by hand.
 fn hand_history() -> History {
-    let Contract { lot, w, r } = worked().contract;
-    let call = |event| Call {
-        event,
-        lengths: FULL,
-    };
-    let calls: Vec<Call> = worked().events.into_iter().map(call).collect();
-    run(lot, w, r, &calls).unwrap().unwrap()
+    let calls = full(&worked().events);
+    ending(worked().contract, &calls).unwrap().history
 }
 
 #[test]
@@ -68,7 +80,57 @@ fn demand_3_holds_wherever_a_list_stops() {
 
 #[test]
 fn demand_3_holds_over_the_empty_list() {
-    let history = run(1, 1, 1, &[]).unwrap().unwrap();
+    let history = run(1, 1, 1, &[]).unwrap().unwrap().history;
+    assert_eq!(history.demand_three(), Ok(()));
+}
+
+#[test]
+fn a_list_with_blocks_ends_as_the_list_with_its_trades_written_out() {
+    let (mut longest, mut empty, mut uneven) = (0, 0, 0);
+    let files = (0..640).map(|seed| (seed, generate::file(seed)));
+    for (seed, file) in files.chain((0..320).map(|seed| (seed, unruly(seed)))) {
+        let Some((contract, calls)) = lists::calls(seed, &file) else {
+            continue;
+        };
+        let given = with_blocks(seed, &calls);
+        let (by_blocks, singly) = (ending(contract, &given), ending(contract, &singly(&calls)));
+        assert!(by_blocks == singly, "seed {seed}");
+        let claims = by_blocks.map(|ending| ending.history.demand_three());
+        assert_eq!(claims.unwrap_or(Ok(())), Ok(()), "seed {seed}");
+        let blocks = given.iter().filter_map(|call| match call {
+            Call::Block(block) => Some(block),
+            Call::Single(_) => None,
+        });
+        for block in blocks {
+            match block.is_even() {
+                true => longest = longest.max(block.answers),
+                false => uneven += 1,
+            }
+            empty += usize::from(*block == Block::default());
+        }
+    }
+    assert!(longest > 3_000, "a block of {longest} trades");
+    assert!(
+        empty > 400 && uneven > 400,
+        "{empty} empty, {uneven} uneven"
+    );
+}
+
+/// The three trades of the hand case in one block, a refused one among them, and
+/// after it a block that is refused.
+#[test]
+fn a_block_counts_as_its_single_trades_and_a_refused_one_brings_nothing() {
+    let mut events = worked().events;
+    events.insert(5, trade(0, 0, 1_500_000, 1));
+    let mut refused = Block::of(&events[4..8]);
+    refused.answers = 3;
+    let blocks = [Block::of(&events[4..8]), refused].map(Call::Block);
+    let given = [&full(&events[..4]), &blocks[..], &full(&events[8..])].concat();
+    let by_blocks = ending(worked().contract, &given);
+    assert_eq!(by_blocks, ending(worked().contract, &full(&events)));
+    let history = by_blocks.unwrap().history;
+    assert_eq!(history.steps[5].answer, Err(Refusal::BuyerIsSeller));
+    assert_eq!(history.steps.len(), 16);
     assert_eq!(history.demand_three(), Ok(()));
 }
 
@@ -191,15 +253,8 @@ fn a_read_answers_as_its_events_called_one_by_one() {
         };
         let mut reader = Reader::new(&bytes);
         let events: Vec<_> = (0..n).map_while(|_| reader.read().event.ok()).collect();
-        let calls: Vec<_> = events
-            .iter()
-            .map(|&event| Call {
-                event,
-                lengths: FULL,
-            })
-            .collect();
         let (lot, w, r) = file::contract_in(&bytes);
-        let Some(history) = run(lot, w, r, &calls).unwrap() else {
+        let Some(Ending { history, .. }) = ending(Contract { lot, w, r }, &full(&events)) else {
             continue;
         };
         let refused = history.steps.iter().position(|step| step.answer.is_err());

@@ -1,11 +1,12 @@
 //! The generator: the same seed gives the same bytes, and it reaches what it
 //! should.
 
+use wheat_delivery::reading::answers::printed;
 use wheat_delivery::reading::file::events_in;
 use wheat_delivery::reading::listing::listing;
 use wheat_delivery::trial::examples::examples;
 use wheat_delivery::trial::generate::lists::calls;
-use wheat_delivery::trial::generate::{Kind, file, kind, sized};
+use wheat_delivery::trial::generate::{Kind, file, kind, sized, trading};
 use wheat_delivery::trial::random::Random;
 use wheat_delivery::trial::reach::Reach;
 
@@ -101,6 +102,20 @@ fn a_sized_file_has_its_events_and_sections_and_as_many_lines_as_may_be() {
         }
         assert_eq!(sized(sections, least - 1), None);
     }
+}
+
+#[test]
+fn a_trading_file_is_accepted_throughout() {
+    let bytes = trading(64, 3_800).unwrap();
+    assert_eq!(events_in(&bytes), Ok(3_800));
+    let (margins, numbers): (Vec<String>, Vec<String>) = printed(&bytes)
+        .lines()
+        .map(str::to_string)
+        .partition(|row| row.starts_with("margins "));
+    assert!(numbers.iter().all(|row| row.ends_with(" 0")));
+    assert_eq!((margins.len(), numbers.len()), (2, 3_800));
+    assert_eq!(trading(0, 0).unwrap().len(), 16);
+    assert_eq!(trading(64, 63), None);
 }
 
 #[test]

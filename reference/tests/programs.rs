@@ -157,6 +157,15 @@ fn the_generator_writes_the_examples_and_files_of_a_size() {
         std::fs::read(folder.join("file")).unwrap(),
         generate::sized(16, 475).unwrap()
     );
+    assert!(generate(&["--trading", "64", "3800", "file"]));
+    assert_eq!(
+        std::fs::read(folder.join("file")).unwrap(),
+        generate::trading(64, 3_800).unwrap()
+    );
+    assert!(generate(&["--trading", "0", "0", "file"]));
+    assert!(!generate(&["--trading", "0", "1", "file"]));
+    assert!(!generate(&["--trading", "1", "2", "file"]));
+    assert!(!generate(&["--trading", "129", "3800", "file"]));
     assert!(!generate(&["--sized", "15", "475", "file"]));
     assert!(!generate(&["--sized", "128", "475", "file"]));
     assert!(!generate(&["--sized", "16", "3801", "file"]));

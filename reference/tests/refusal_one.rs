@@ -3,6 +3,7 @@
 mod common;
 
 use common::{Lent, book_of};
+use wheat_delivery::reading::block::Trades;
 use wheat_delivery::reading::book::{Book, NOTICES, Notice, SECTIONS, Section, SessionKind};
 use wheat_delivery::reading::calls::open;
 use wheat_delivery::reading::refusal::Refusal;
@@ -26,6 +27,13 @@ fn every_call_refuses_1(book: &Book) -> bool {
     let mut lent = Lent::new([0; 4], 0, 0);
     let mut full = Lent::new([382; 4], 128, 128);
     let mut full_margins = [77; 128];
+    let mut block_answers = [77; 2];
+    let block = Trades {
+        buyers: &[0, 9],
+        sellers: &[1, 9],
+        prices: &[100, 0],
+        lots: &[1, 0],
+    };
     let answers = [
         given.section(0, true, code("Z000001"), 9),
         given.section(64, true, code("a000001"), 9),
@@ -39,12 +47,15 @@ fn every_call_refuses_1(book: &Book) -> bool {
         given.notice(255, 255, 0),
         given.expiry(full.lend()).map(|_| ()),
         given.expiry(lent.lend()).map(|_| ()),
+        given.block(block, &mut block_answers),
+        given.block(block, &mut block_answers[..1]),
     ];
     answers
         .iter()
         .all(|answer| *answer == Err(Refusal::BrokenBook))
         && given == *book
         && full_margins == [77; 128]
+        && block_answers == [77; 2]
         && full.is_untouched()
 }
 

@@ -5,7 +5,7 @@ use Rattle.numbers.proofs.Tests.{both, or-left, or-right}
 use Rattle.rules.specs.Book.{good, lotGood, stepsGood, factorGood, sectionCodeGood, byteGood, sectionAt, positionOf, heldSections, filedNotices}
 use Rattle.rules.specs.Calls.{first, unknown, openingNumber, sectionNumber, sectionCodeHeld, tradeNumber, partyRefusals, sizeRefusals, roomRefusals, exceeds, sessionNumber, conditionNumber, noticeNumber, noticeFiled, sectionAnswer, tradeAnswer, sessionAnswer, conditionAnswer, noticeAnswer}
 use Rattle.rules.specs.Expiry.Call.{expiryRefusals, expiryAnswer}
-use Rattle.rules.specs.History.{Call, answerOf}
+use Rattle.rules.specs.History.{Single, answerOf}
 use Rattle.rules.specs.History as call
 use Rattle.book_laws.proofs.Answers.{first-none, first-none-append, numbered}
 use Rattle.book_laws.proofs.Good.{Between, Good, facts, between-facts}
@@ -188,7 +188,7 @@ notice b i elevator lots e =
     }
 
 -- any accepted call was given a book that has not expired (01, Section, 1; 01, Expiry call, 3)
-pub running : (b : Book) (c : Call) → answerOf b c .number ≡ 0 → b .expired ≡ false
+pub running : (b : Book) (c : Single) → answerOf b c .number ≡ 0 → b .expired ≡ false
 unfolding answerOf sectionAnswer tradeAnswer sessionAnswer conditionAnswer noticeAnswer expiryAnswer expiryRefusals
 running b (call.section settlement code participant seller) e = section b settlement code e .running
 running b (call.trade buyer seller price lots) e = trade b buyer seller price lots e .party .running

@@ -5,7 +5,7 @@ use Rattle.rules.specs.declared.book.{Book.Book}
 use Rattle.rules.specs.Book.{good, termsGood, placesGood, sectionsGood, noticesGood, tailsBlank}
 use Rattle.rules.specs.Calls.{first, handedOut, sectionAnswer, tradeAnswer, sessionAnswer, conditionAnswer, noticeAnswer}
 use Rattle.rules.specs.Expiry.Call.{Lists, expiryRefusals, afterExpiry, expiryAnswer}
-use Rattle.rules.specs.History.{Call, section, trade, session, condition, notice, expiry, answerOf}
+use Rattle.rules.specs.History.{Single, section, trade, session, condition, notice, expiry, answerOf}
 pub mod Sections
 pub mod Opening
 pub mod Section
@@ -51,7 +51,7 @@ pub expiry-answered : (b : Book) (ls : Lists) → good b ≡ true → good (expi
 unfolding expiryAnswer
 expiry-answered b ls was = answered (first (expiryRefusals b ls)) (afterExpiry b) b (λ e. expiry-kept b ∙ was) was
 
-pub call-answered : (b : Book) (call : Call) → good b ≡ true → good (answerOf b call .book) ≡ true
+pub call-answered : (b : Book) (call : Single) → good b ≡ true → good (answerOf b call .book) ≡ true
 unfolding answerOf
 call-answered b (section settlement code participant seller) = section-answered b settlement code participant seller
 call-answered b (trade buyer seller price lots) = trade-answered b buyer seller price lots

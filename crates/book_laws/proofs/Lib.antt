@@ -1,6 +1,7 @@
 pub mod Accepted
 pub mod Answers
 pub mod Blank
+pub mod Blocks
 pub mod Effects
 pub mod Good
 pub mod Held

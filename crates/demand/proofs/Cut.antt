@@ -2,13 +2,13 @@
 use Rattle.numbers.proofs.Words.{_≡_, refl, ap, _∙_, Bool, true, false, cond, or-true, List, [], _∷_, _++_, some}
 use Rattle.rules.specs.declared.book.{Book.Book}
 use Rattle.numbers.proofs.Lists.{flatMap-last}
-use Rattle.rules.specs.History.{Call, Accepted, Session, tradeOf, sessionOf, registerOf, trades, sessions, registers, holds, upToLast, sinceLast, lastValue}
+use Rattle.rules.specs.History.{Single, Accepted, Session, tradeOf, sessionOf, registerOf, trades, sessions, registers, holds, upToLast, sinceLast, lastValue}
 
 -- one call more
-abbrev pub more : List Accepted → Book → Call → List Accepted
+abbrev pub more : List Accepted → Book → Single → List Accepted
 more past b c = past ++ (record { book = b; call = c } ∷ [])
 
-module _ (past : List Accepted) (b : Book) (c : Call) where
+module _ (past : List Accepted) (b : Book) (c : Single) where
   pub trades-more : trades (more past b c) ≡ trades past ++ tradeOf b c
   trades-more = flatMap-last (λ (a : Accepted). tradeOf (a .book) (a .call)) past _
 
@@ -25,7 +25,7 @@ value-last [] s = refl
 value-last (t ∷ []) s = refl
 value-last (t ∷ u ∷ ss) s = value-last (u ∷ ss) s
 
-pub value-more : (past : List Accepted) (b : Book) (c : Call) (s : Session) → sessionOf b c ≡ s ∷ [] → lastValue (sessions (more past b c)) ≡ s .value
+pub value-more : (past : List Accepted) (b : Book) (c : Single) (s : Session) → sessionOf b c ≡ s ∷ [] → lastValue (sessions (more past b c)) ≡ s .value
 value-more past b c s one = ap lastValue (sessions-more past b c ∙ ap (λ (ss : List Session). sessions past ++ ss) one) ∙ value-last (sessions past) s
 
 -- the cut at the last session of a kind (01, Calls, 10)

@@ -3,7 +3,7 @@ use Rattle.numbers.proofs.Words.{_≡_, refl, sym, ap, subst, _∙_, false, tru
 use Rattle.rules.specs.declared.book.{Book.Book}
 use Rattle.rules.specs.Book.{opened}
 use Rattle.rules.specs.Expiry.Call.{expiryAnswer, afterExpiry}
-use Rattle.rules.specs.History.{Call, section, trade, session, condition, notice, expiry, answerOf, Accepted, Register, registerOf, trades, registers, Delivered, DemandThree}
+use Rattle.rules.specs.History.{Single, section, trade, session, condition, notice, expiry, answerOf, Accepted, Register, registerOf, trades, registers, Delivered, DemandThree}
 use Rattle.book_laws.proofs.Answers.{written}
 use Rattle.demand.proofs.Cut.{more, registers-more}
 use Rattle.book_laws.proofs.Accepted.{running}
@@ -18,11 +18,11 @@ record Stands (b : Book) (past : List Accepted) : Type 0 where
   none : b .expired ≡ false → registers past ≡ []
 
 -- the register of one call: only an expiry has one, and it ends the book
-record Ends (b : Book) (calls : List Accepted) (c : Call) (new : Book) : Type 0 where
+record Ends (b : Book) (calls : List Accepted) (c : Single) (new : Book) : Type 0 where
   delivered : Every (Delivered (trades calls)) (registerOf b c)
   none : new .expired ≡ false → registerOf b c ≡ []
 
-ends : (b : Book) (past : List Accepted) → Reached b past → (c : Call) → answerOf b c .number ≡ 0 → Ends b (more past b c) c (answerOf b c .book)
+ends : (b : Book) (past : List Accepted) → Reached b past → (c : Single) → answerOf b c .number ≡ 0 → Ends b (more past b c) c (answerOf b c .book)
 unfolding registerOf answerOf expiryAnswer afterExpiry Every
 ends b past was (section settlement code participant seller) e = record { delivered = tt; none = λ not-yet. refl }
 ends b past was (trade buyer seller price lots) e = record { delivered = tt; none = λ not-yet. refl }
@@ -37,7 +37,7 @@ ends b past was (expiry ls) e =
       none = λ not-yet. absurd (true≢false (ap (λ (new : Book). new .expired) after ∙ not-yet));
     }
 
-next : (b : Book) (past : List Accepted) → Stands b past → (c : Call) → answerOf b c .number ≡ 0 → Stands (answerOf b c .book) (more past b c)
+next : (b : Book) (past : List Accepted) → Stands b past → (c : Single) → answerOf b c .number ≡ 0 → Stands (answerOf b c .book) (more past b c)
 next b past was c e =
     let end = ends b past (was .reached) c e in
     let last : registers (more past b c) ≡ registerOf b c = registers-more past b c ∙ ap (λ (gs : List Register). gs ++ registerOf b c) (was .none (running b c e)) in

@@ -7,3 +7,4 @@ pub mod Specification
 pub mod Written
 pub mod Delivers
 pub mod Demand
+pub mod Blocks

@@ -8,7 +8,7 @@ use Rattle.rules.specs.Units.{worth}
 use Rattle.rules.specs.Book.{opened, sectionAt, positionOf, basisOf, valueAt}
 use Rattle.rules.specs.Calls.{openingNumber, sessionMargins, marginOf, following}
 use Rattle.rules.specs.Expiry.Call.{dayLast}
-use Rattle.rules.specs.History.{Call, answerOf, bookAfter, Accepted, Trade, Session, tradeOf, sessionOf, trades, sessions, holds, upToLast, sinceLast, lastValue, anySession, evening, sided, net, entered, rise, dayMargin, specified, MarginsSpecified}
+use Rattle.rules.specs.History.{Single, answerOf, bookAfterCalls, Accepted, Trade, Session, tradeOf, sessionOf, trades, sessions, holds, upToLast, sinceLast, lastValue, anySession, evening, sided, net, entered, rise, dayMargin, specified, MarginsSpecified}
 use Rattle.book_laws.proofs.Accepted as judged
 use Rattle.book_laws.proofs.Margins.{margins-written}
 use Rattle.book_laws.proofs.Effects.Session.{margin-at}
@@ -37,7 +37,7 @@ cancelled : (x y z : ℤ) → x -ℤ z -ℤ (y -ℤ z) ≡ x -ℤ y
 cancelled x y z = ext _ _ (omega (arith, difference x z, difference y z, difference (x -ℤ z) (y -ℤ z), difference x y))
 
 -- one accepted call more that holds no evening session
-module _ (past : List Accepted) (b : Book) (c : Call) (i : ℕ) (v : Kopecks) where
+module _ (past : List Accepted) (b : Book) (c : Single) (i : ℕ) (v : Kopecks) where
   day-more : holds evening (record { book = b; call = c }) ≡ false → dayMargin (more past b c) i v ≡ dayMargin past i v +ℤ today i v (tradeOf b c)
   unfolding dayMargin
   day-more none =
@@ -70,7 +70,7 @@ opened-specified lot w r e i v =
     ∙ ap (λ (z : ℤ). z -ℤ pos 0) (zero-*ℤ (v .0))
     ∙ sym (ap (λ (z : ℤ). z +ℤ pos 0) (zero-*ℤ (v .0 -ℤ lastValue [] .0)))
 
-module _ (b : Book) (past : List Accepted) (was : Reached b past) (told : Specified b past) (c : Call) (accepts : answerOf b c .number ≡ 0) (i : ℕ) (v : Kopecks) where
+module _ (b : Book) (past : List Accepted) (was : Reached b past) (told : Specified b past) (c : Single) (accepts : answerOf b c .number ≡ 0) (i : ℕ) (v : Kopecks) where
   abbrev new : Book
   new = answerOf b c .book
 
@@ -156,7 +156,7 @@ record Stands (b : Book) (past : List Accepted) : Type 0 where
 pub margins-specified : MarginsSpecified
 unfolding MarginsSpecified
 margins-specified lot w r e calls price list i accepts held =
-    let b = bookAfter (opened lot w r) calls in
+    let b = bookAfterCalls (opened lot w r) calls in
     let after = run Stands (λ d past was c ok. record { reached = reached-next d past (was .reached) c ok; told = λ j v. specified-next d past (was .reached) (was .told) c ok j v (brings d c) }) calls (opened lot w r) [] (record { reached = opened-reached lot w r e; told = opened-specified lot w r e }) in
     sym (getD-take (b .held) (sessionMargins b price list) i (pos 0) held)
     ∙ ap (λ (ms : List ℤ). entryℤ ms i) (margins-written b price list accepts)

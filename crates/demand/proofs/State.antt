@@ -6,7 +6,7 @@ use Rattle.rules.specs.Units.{worth}
 use Rattle.rules.specs.Book.{good, opened, sectionAt, positionOf, basisOf}
 use Rattle.rules.specs.Calls.{openingNumber}
 use Rattle.rules.specs.Expiry.Call.{dayLast}
-use Rattle.rules.specs.History.{Call, section, trade, session, condition, notice, expiry, answerOf, Accepted, Trade, Session, tradeOf, sessionOf, trades, sessions, upToLast, lastValue, anySession, sided, net, entered}
+use Rattle.rules.specs.History.{Single, section, trade, session, condition, notice, expiry, answerOf, Accepted, Trade, Session, tradeOf, sessionOf, trades, sessions, upToLast, lastValue, anySession, sided, net, entered}
 use Rattle.book_laws.proofs.Good.{facts}
 use Rattle.book_laws.proofs.Blank.{rest-read}
 use Rattle.book_laws.proofs.Kept.Opening.{opening-kept}
@@ -14,11 +14,11 @@ use Rattle.demand.proofs.Cut.{more, trades-more, sessions-more, value-m
 use Rattle.demand.proofs.Steps.{paidTo, Effect, settled-basis, effect}
 
 -- a call brings one session and no trade, or no session
-pub data Brings (b : Book) (c : Call) : Type 0 where
+pub data Brings (b : Book) (c : Single) : Type 0 where
   paying : (s : Session) → sessionOf b c ≡ s ∷ [] → tradeOf b c ≡ [] → s .evening ≡ dayLast (b .last) → Brings b c
   other : sessionOf b c ≡ [] → Brings b c
 
-pub brings : (b : Book) (c : Call) → Brings b c
+pub brings : (b : Book) (c : Single) → Brings b c
 unfolding sessionOf tradeOf
 brings b (section settlement code participant seller) = other refl
 brings b (trade buyer seller price lots) = other refl
@@ -66,7 +66,7 @@ unfolding Every
 every-append P [] ys h k = k
 every-append P (x ∷ xs) ys h k = (h .0, every-append P xs ys (h .1) k)
 
-module _ (b : Book) (past : List Accepted) (was : Reached b past) (c : Call) (accepted : answerOf b c .number ≡ 0) where
+module _ (b : Book) (past : List Accepted) (was : Reached b past) (c : Single) (accepted : answerOf b c .number ≡ 0) where
   abbrev new : Book
   new = answerOf b c .book
 

@@ -5,7 +5,7 @@ use Rattle.rules.specs.Units.{worth}
 use Rattle.rules.specs.Book.{good, sectionAt, positionOf, basisOf, valueAt}
 use Rattle.rules.specs.Calls.{newSection, sectionAnswer, tradeNumber, traded, tradeAnswer, sessionNumber, handedOut, following, afterSession, sessionAnswer, conditionAnswer, afterNotice, noticeAnswer}
 use Rattle.rules.specs.Expiry.Call.{expiryAnswer, afterExpiry}
-use Rattle.rules.specs.History.{Call, section, trade, session, condition, notice, expiry, answerOf, Trade, tradeOf, Session, sessionOf, anySession, net, entered}
+use Rattle.rules.specs.History.{Single, section, trade, session, condition, notice, expiry, answerOf, Trade, tradeOf, Session, sessionOf, anySession, net, entered}
 use Rattle.book_laws.proofs.Accepted as accepted
 use Rattle.book_laws.proofs.Answers.{written}
 use Rattle.book_laws.proofs.Margins.{margins-sum, margins-written}
@@ -67,7 +67,7 @@ session-effect b price list e =
 handed : {number : ℕ} {b new : Book} {ts : List Trade} {ss : List Session} → number ≡ 0 → Effect b new ts ss → Effect b (handedOut number new b) ts ss
 handed {b = b} {ts = ts} {ss = ss} e = subst (λ (new : Book). Effect b new ts ss) (written _ _ _ b refl e)
 
-pub effect : (b : Book) → good b ≡ true → (c : Call) → answerOf b c .number ≡ 0 → Effect b (answerOf b c .book) (tradeOf b c) (sessionOf b c)
+pub effect : (b : Book) → good b ≡ true → (c : Single) → answerOf b c .number ≡ 0 → Effect b (answerOf b c .book) (tradeOf b c) (sessionOf b c)
 unfolding answerOf tradeOf sessionOf sectionAnswer tradeAnswer sessionAnswer conditionAnswer noticeAnswer expiryAnswer afterNotice afterExpiry
 effect b was (section settlement code participant seller) e =
     let call = accepted.section b settlement code e in

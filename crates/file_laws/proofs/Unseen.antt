@@ -15,7 +15,7 @@ use Rattle.rules.specs.Calls.{_if_, first, answer, judged, handedOut, count, op
 use Rattle.rules.specs.Expiry.{size}
 use Rattle.rules.specs.Expiry.Passes.{Line}
 use Rattle.rules.specs.Expiry.Call.{registerPlaces, dayLast, delivered, terminated, lines, expiryRefusals, afterExpiry, expiryWritten, expiryAnswer}
-use Rattle.rules.specs.History.{Call, Session as Held, answerOf, sessionOf}
+use Rattle.rules.specs.History.{Single, Session as Held, answerOf, sessionOf}
 use Rattle.rules.specs.File.{wordAt, eventsIn, misshapen, foundAt, readAt, Lent, Run, stopped, callOf, ownNumber, summed, afterEvent, readFrom, readWhole, fileAnswer, fileLists}
 use Rattle.rules.specs.Listing.{row, lineRow, sectionRow, listingOf, printedWith, noughts, printed}
 use Rattle.book_laws.proofs.Good.{facts}
@@ -92,7 +92,7 @@ opening-said : (bad : Bool) (number : ℕ) → _≡_ {A = ℕ} (cond bad 25 numb
 opening-said true number e = absurd (omega (arith, e))
 opening-said false number e = e
 
-after-good : (run : Run) (call : Call) → good (run .book) ≡ true → good (afterEvent run call .book) ≡ true
+after-good : (run : Run) (call : Single) → good (run .book) ≡ true → good (afterEvent run call .book) ≡ true
 unfolding afterEvent
 after-good run call e = call-answered (run .book) call e
 

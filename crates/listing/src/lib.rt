@@ -5,9 +5,9 @@ ghost use Rattle.listing.specs.Columns.{refusedRow, listing};
 ghost use Rattle.listing.specs.Laid.{Laid};
 use rules::book::Book;
 
-mod codes;
+pub mod codes;
 mod digits;
-mod rows;
+pub mod rows;
 pub mod text;
 
 // The listing of an expired book, its register and its lists: how many lines, a row for each line, a row for each section. It answers how
@@ -36,7 +36,7 @@ pub fn accepted(
     let held = b.held;
     let mut codes = [0; 896];
     codes::laid(b, &mut codes);
-    let at = rows::head(lines, out);
+    let at = rows::head(lines, out, 0);
     let at = rows::lines(
         &codes,
         buyers,

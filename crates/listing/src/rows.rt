@@ -11,11 +11,11 @@ use rules::units::Tonnes;
 use value::signed;
 
 // The first row: how many lines there are (01, Program, 1).
-pub fn head(lines: usize, out: &mut [u8]) -> usize
-    requires { ⌜ length (headRow lines) ≤ length (now out) ⌝ }
-    ensures { λ r. ⌜ Laid (now (out .entry)) 0 (headRow lines) (now (out .exit)) r ⌝ }
+pub fn head(lines: usize, out: &mut [u8], at: usize) -> usize
+    requires { ⌜ at + length (headRow lines) ≤ length (now out) ⌝ }
+    ensures { λ r. ⌜ Laid (now (out .entry)) at (headRow lines) (now (out .exit)) r ⌝ }
 {
-    text::row(b"register", lines as u64, out, 0)
+    text::row(b"register", lines as u64, out, at)
 }
 
 // Lots become tonnes by the lot size alone (01, Head, 4; 01, Forms, 4).

@@ -1,5 +1,5 @@
 -- Demand 3 of a file: the law over its calls, read off what the file's read hands out.
-use Rattle.numbers.proofs.Words.{ℕ, _+_, arith, _≡_, refl, sym, ap, subst, _∙_, Bool, true, false, true≢false, not, List, [], _∷_, _++_, flatMap, length, length-append, eqb, eqb-true, not-false, pos, _+ℤ_, _-ℤ_, some, Every}
+use Rattle.numbers.proofs.Words.{ℕ, _+_, arith, _≡_, refl, sym, ap, subst, _∙_, Bool, true, false, true≢false, not, List, [], _∷_, _++_, map, flatMap, length, length-append, eqb, eqb-true, not-false, pos, _+ℤ_, _-ℤ_, some, Every}
 use Rattle.rules.specs.declared.book.{Book.Book, FileAnswer.FileAnswer}
 use Rattle.numbers.proofs.Tests.{or-left, or-right}
 use Rattle.numbers.proofs.Lists.{empty}
@@ -9,22 +9,23 @@ use Rattle.rules.specs.Units.{worth}
 use Rattle.rules.specs.Calls.{handedOut, newSection, withSection, sectionAnswer, traded, tradeAnswer, sessionAnswer, afterCondition, conditionAnswer, afterNotice, noticeAnswer, first}
 use Rattle.rules.specs.Expiry.Call.{Lists, afterExpiry, expiryRefusals, expiryAnswer, expiryLists, dayLast}
 use Rattle.rules.specs.File.{Lent, readWhole, fileAnswer, fileLists}
-use Rattle.rules.specs.History.{Call, section, trade, session, condition, notice, expiry, answerOf, bookAfter, Accepted, accepted, Trade, tradeOf, trades, Session, sessionOf, sessions, Register, registerOf, registers, holds, anySession, upToLast, lastValue, net, entered, lotsWhere, Delivered, DemandThree, Holds}
+use Rattle.rules.specs.History.{Single, section, trade, session, condition, notice, expiry, single, answerOf, bookAfter, Accepted, accepted, Trade, tradeOf, trades, Session, sessionOf, sessions, Register, registerOf, registers, holds, anySession, upToLast, lastValue, net, entered, lotsWhere, Delivered, DemandThree, Holds}
 use Rattle.book_laws.proofs.Answers.{written, first-none}
+use Rattle.book_laws.proofs.Blocks.{singles-history}
 use Rattle.read_laws.specs.ReadCalls.{startOf, callsOf, AllAccepted, ReadByCalls, ReadIsCalls}
 use Rattle.read_laws.specs.FileDemand.{acceptedIn, FileHolds, FileDemand}
 use Rattle.read_laws.proofs.Calls.{accepted-more, last-accepted, whole-sound, sums-handed, read-is-calls}
 use Rattle.read_laws.proofs.Along.{longer-total}
 
 -- a call that is no session counts its trade (01, Book, 1)
-trades-counted : (b : Book) (c : Call) → answerOf b c .number ≡ 0 → sessionOf b c ≡ [] → answerOf b c .book .trades ≡ b .trades + length (tradeOf b c)
+trades-counted : (b : Book) (c : Single) → answerOf b c .number ≡ 0 → sessionOf b c ≡ [] → answerOf b c .book .trades ≡ b .trades + length (tradeOf b c)
 unfolding answerOf sessionOf tradeOf sectionAnswer tradeAnswer sessionAnswer conditionAnswer noticeAnswer expiryAnswer withSection traded afterCondition afterNotice afterExpiry
 trades-counted b c e none = go c e none
   where
     by : {number : ℕ} (more : ℕ) (new : Book) → new .trades ≡ b .trades + more → number ≡ 0 → handedOut number new b .trades ≡ b .trades + more
     by more new same e = ap (λ (d : Book). d .trades) (sym (written _ _ new b refl e)) ∙ same
 
-    go : (c : Call) → answerOf b c .number ≡ 0 → sessionOf b c ≡ [] → answerOf b c .book .trades ≡ b .trades + length (tradeOf b c)
+    go : (c : Single) → answerOf b c .number ≡ 0 → sessionOf b c ≡ [] → answerOf b c .book .trades ≡ b .trades + length (tradeOf b c)
     go (section settlement code participant seller) e none = by 0 (withSection b (newSection settlement code participant seller)) (omega arith) e
     go (trade buyer seller price lots) e none = by 1 (traded b buyer seller price lots) refl e
     go (session price list) e none = let never : _≡_ {A = ℕ} 0 1 = cc in absurd (omega arith)
@@ -38,7 +39,7 @@ no-session [] e = refl
 no-session (s ∷ ss) e = absurd (true≢false e)
 
 -- so after the last session the book counts the trades (01, Book, 1)
-counted : (calls : List Call) (b : Book) → AllAccepted b calls → some (holds anySession) (accepted b calls) ≡ false → bookAfter b calls .trades ≡ b .trades + length (trades (accepted b calls))
+counted : (calls : List Single) (b : Book) → AllAccepted b calls → some (holds anySession) (accepted b calls) ≡ false → bookAfter b calls .trades ≡ b .trades + length (trades (accepted b calls))
 unfolding bookAfter AllAccepted accepted some flatMap
 counted [] b all none = omega arith
 counted (c ∷ cs) b all none =
@@ -54,7 +55,7 @@ counted (c ∷ cs) b all none =
     )
 
 -- and where it counts none, every trade was before the last session
-settled : (calls : List Call) (b : Book) → AllAccepted b calls → bookAfter b calls .trades ≡ 0 → trades (upToLast anySession (accepted b calls)) ≡ trades (accepted b calls)
+settled : (calls : List Single) (b : Book) → AllAccepted b calls → bookAfter b calls .trades ≡ 0 → trades (upToLast anySession (accepted b calls)) ≡ trades (accepted b calls)
 unfolding bookAfter AllAccepted accepted upToLast flatMap
 settled [] b all none = refl
 settled (c ∷ cs) b all none =
@@ -73,7 +74,7 @@ settled (c ∷ cs) b all none =
     go rest false t nothing = rw (t, upToLast) (sym (nothing t))
 
 -- the register of the last call, where it is an expiry (01, Calls, 5)
-accepted-last : (earlier : List Call) (b : Book) (c : Call) → AllAccepted b (earlier ++ (c ∷ [])) → accepted b (earlier ++ (c ∷ [])) ≡ accepted b earlier ++ (record { book = bookAfter b earlier; call = c } ∷ [])
+accepted-last : (earlier : List Single) (b : Book) (c : Single) → AllAccepted b (earlier ++ (c ∷ [])) → accepted b (earlier ++ (c ∷ [])) ≡ accepted b earlier ++ (record { book = bookAfter b earlier; call = c } ∷ [])
 unfolding accepted AllAccepted bookAfter
 accepted-last [] b c all = accepted-more b c [] (all .0)
 accepted-last (d ∷ ds) b c all =
@@ -106,7 +107,7 @@ no-trade-since b ls e =
     let since = first-none _ _ (omega arith) (open-book .1) in
     eqb-true _ _ (not-false _ (or-right (not (dayLast (b .last))) (not (eqb (b .trades) 0)) (since .0)))
 
-module _ (three : DemandThree) (file : List ℕ) (lent : Lent) (e : readWhole file lent .number ≡ 0) (earlier : List Call) (r : ReadByCalls file lent earlier) where
+module _ (three : DemandThree) (file : List ℕ) (lent : Lent) (e : readWhole file lent .number ≡ 0) (earlier : List Single) (r : ReadByCalls file lent earlier) where
   abbrev start : Book
   start = startOf file
 
@@ -129,7 +130,7 @@ module _ (three : DemandThree) (file : List ℕ) (lent : Lent) (e : readWhole fi
 
   three-holds : Holds told
   unfolding DemandThree
-  three-holds = three _ _ _ (r .opening) (callsOf file lent)
+  three-holds = subst Holds (singles-history (callsOf file lent) start) (three _ _ _ (r .opening) (map single (callsOf file lent)))
 
   expired : Delivered (trades told) (record { book = before; lists = expiryLists before (lent .lists); lines = expiryAnswer before (lent .lists) .lines })
   expired =

@@ -7,8 +7,9 @@ use std::time::Instant;
 use wheat_delivery::reading::book::Book;
 use wheat_delivery::reading::file::{self, Reader, whole};
 use wheat_delivery::reading::listing::Lists;
-use wheat_delivery::trial::demand;
-use wheat_delivery::trial::generate::{self, lists};
+use wheat_delivery::trial::demand::{self, Call, Ending};
+use wheat_delivery::trial::generate::lists::{self, singly, with_blocks};
+use wheat_delivery::trial::generate::{self, Contract};
 
 fn main() -> ExitCode {
     let arguments: Vec<String> = std::env::args().skip(1).collect();
@@ -32,10 +33,16 @@ fn main() -> ExitCode {
         calls,
         refused,
         expiries,
+        blocks,
+        in_blocks,
+        uneven,
     } = tally;
     println!("{count} files hold in {seconds:.1} s: {accepted} accepted, with the writer's bytes");
     println!(
         "{lists} lists of calls hold: {calls} calls, {refused} refused, {expiries} lists with an expiry"
+    );
+    println!(
+        "of these {in_blocks} trades in {blocks} blocks, which come to the same; {uneven} more blocks refused"
     );
     ExitCode::SUCCESS
 }
@@ -47,6 +54,9 @@ struct Tally {
     calls: usize,
     refused: usize,
     expiries: u64,
+    blocks: usize,
+    in_blocks: usize,
+    uneven: usize,
 }
 
 impl Tally {
@@ -57,15 +67,22 @@ impl Tally {
         let Some((contract, calls)) = lists::calls(seed, &file) else {
             return Ok(());
         };
-        let Some(history) = demand::run(contract.lot, contract.w, contract.r, &calls)? else {
+        let Contract { lot, w, r } = contract;
+        let blocks = with_blocks(seed, &calls);
+        let Some(ending) = demand::run(lot, w, r, &blocks)? else {
             return Ok(());
         };
+        if demand::run(lot, w, r, &singly(&calls))?.as_ref() != Some(&ending) {
+            return Err("blocks and their trades written out end otherwise".to_string());
+        }
+        let Ending { history, .. } = ending;
         history.demand_three()?;
         history
             .prefix(seed as usize % (calls.len() + 1))
             .demand_three()?;
         self.lists += 1;
         self.calls += calls.len();
+        self.add_blocks(&blocks);
         self.refused += history
             .steps
             .iter()
@@ -73,6 +90,19 @@ impl Tally {
             .count();
         self.expiries += u64::from(history.has_expiry());
         Ok(())
+    }
+
+    fn add_blocks(&mut self, calls: &[Call]) {
+        for call in calls {
+            match call {
+                Call::Block(block) if block.is_even() => {
+                    self.blocks += 1;
+                    self.in_blocks += block.answers;
+                }
+                Call::Block(_) => self.uneven += 1,
+                Call::Single(_) => {}
+            }
+        }
     }
 
     /// A refused read writes nothing; an accepted file is the writer's.

@@ -102,7 +102,7 @@ impl Book {
     /// "A call given a book that breaks one of these rules, or a limit below,
     /// refuses 1 before all else"; the further conditions are asked of a good
     /// book only.
-    fn faults<const N: usize>(
+    pub(super) fn faults<const N: usize>(
         &self,
         further: impl FnOnce() -> [(bool, Refusal); N],
     ) -> Vec<Refusal> {

@@ -1,6 +1,6 @@
 //! The listing of a file (document 01, "The program reads the file").
 
-use crate::reading::book::SECTIONS;
+use crate::reading::book::{Book, SECTIONS};
 use crate::reading::calls::{ExpiryLists, REGISTER};
 use crate::reading::file::whole::{ReadLists, Reading, read};
 use std::fmt::Write;
@@ -58,23 +58,29 @@ pub fn listing(file: &[u8]) -> String {
     }
 }
 
-/// "prints `register` and the line count; a row per line: buyer's code,
-/// elevator, seller's code, lots, tonnes; a row per section by number: code,
-/// delivered, terminated, sum of its margins."
+/// "a row per section by number: code, delivered, terminated, sum of its
+/// margins."
 fn accepted(reading: &Reading, lines: usize, lists: &Lists) -> String {
-    let sections = reading.book.sections();
+    let mut text = register(&reading.book, lines, lists);
+    for (i, section) in reading.book.sections().iter().enumerate() {
+        let (code, delivered, terminated) = (section.code, lists.delivered[i], lists.terminated[i]);
+        let margins = lists.margin_sums[i];
+        writeln!(text, "{code} {delivered} {terminated} {margins}").expect("a string takes all");
+    }
+    text
+}
+
+/// "prints `register` and the line count; a row per line: buyer's code,
+/// elevator, seller's code, lots, tonnes".
+pub(super) fn register(book: &Book, lines: usize, lists: &Lists) -> String {
+    let sections = book.sections();
     let mut text = format!("register {lines}\n");
     for i in 0..lines {
         let buyer = sections[usize::from(lists.buyers[i])].code;
         let seller = sections[usize::from(lists.sellers[i])].code;
         let (elevator, lots) = (lists.elevators[i], lists.lots[i]);
-        let tonnes = u64::from(lots) * u64::from(reading.book.lot);
+        let tonnes = u64::from(lots) * u64::from(book.lot);
         writeln!(text, "{buyer} {elevator} {seller} {lots} {tonnes}").expect("a string takes all");
-    }
-    for (i, section) in sections.iter().enumerate() {
-        let (code, delivered, terminated) = (section.code, lists.delivered[i], lists.terminated[i]);
-        let margins = lists.margin_sums[i];
-        writeln!(text, "{code} {delivered} {terminated} {margins}").expect("a string takes all");
     }
     text
 }

@@ -1,6 +1,9 @@
 //! What the papers say of the book, its calls, expiry, the file and the listing,
-//! of the calendar, of the last trading day and of the operands by column.
+//! of a block of trades, of the calendar, of the last trading day and of the
+//! operands by column.
 
+pub mod answers;
+pub mod block;
 pub mod book;
 pub mod calendar;
 pub mod calls;

@@ -1,5 +1,5 @@
 //! The refusals, each with the number of document 01, or of document 02 from
-//! 30 on.
+//! 29 on.
 
 /// Why a call, a read or a write is refused.
 #[derive(Clone, Copy, Debug, PartialEq, Eq, PartialOrd, Ord, Hash)]
@@ -33,6 +33,7 @@ pub enum Refusal {
     Malformed = 26,
     NoExpiryLast = 27,
     PlaceBeyond = 28,
+    BlockLists = 29,
     YearOrMonth = 30,
     ClosedDates = 31,
 }

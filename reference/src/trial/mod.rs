@@ -1,6 +1,7 @@
 //! Generated files and rows, what they reach, demand 3 over lists of calls, and
 //! files and rows held against a program.
 
+pub mod calls;
 pub mod columns;
 pub mod demand;
 pub mod examples;

@@ -11,8 +11,9 @@ use std::time::Duration;
 
 /// How long a program may take over one file.
 const PATIENCE: Duration = Duration::from_secs(20);
-/// More than any listing or file has, or the rows that are printed for an input.
-const MOST_OUTPUT: u64 = 1 << 20;
+/// More than any listing or file has, or the rows that are printed for an input,
+/// of which the answers to 3,800 calls have most.
+const MOST_OUTPUT: u64 = 1 << 24;
 /// Enough for a program to have read the piece before.
 const PAUSE: Duration = Duration::from_millis(1);
 

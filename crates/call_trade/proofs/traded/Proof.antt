@@ -1,12 +1,10 @@
-use Rattle.numbers.proofs.Words.{_≤_, _<_, arith, _≡_, ap₂, sym, subst, _∙_, ℤ, pos, negℤ, natAbs, needs}
+use Rattle.numbers.proofs.Words.{_<_, arith, _≡_, ap, _∙_, pos, negℤ, needs}
 use Rattle.rules.specs.declared.units.{Kopecks.Kopecks}
-use Rattle.value_laws.proofs.Value.{value-within}
 use Rattle.rules.specs.Book.{sectionAt, valueAt}
 use Rattle.rules.specs.Calls.{moved, traded}
 use Rattle.book_laws.proofs.Accepted.{NewTrade, trade}
 use Rattle.book_laws.proofs.Good.{Good}
-use Rattle.book_laws.proofs.Held.{held-good, held-basis}
-use Rattle.book_laws.proofs.Lots.{bought, bought-small, sold, sold-fits, sold-small}
+use Rattle.call_trade.proofs.Laws.{movable}
 use Rattle.call_trade.proofs.traded.Statement.{statement}
 use Rattle.call_trade.proofs.traded.Tie as tie
 
@@ -16,29 +14,21 @@ accepted c = trade _ _ _ _ _ (c .pre)
 book : (c : tie.Start) → Good (c .args .t1)
 book c = accepted c .party .book
 
-lots-most : (c : tie.Start) → c .args .lots ≤ 10_000
-lots-most c = accepted c .size .lots-range .most
-
 buyer-place : (c : tie.Start) → c .args .buyer < 128
 buyer-place c = omega (arith, accepted c .party .buyer-known, book c .held)
 
 seller-place : (c : tie.Start) → c .args .seller < 128
 seller-place c = omega (arith, accepted c .party .seller-known, book c .held)
 
-value-small : (c : tie.After-value-at) → natAbs (c .value-at .result .0) ≤ 1_000_000_000
-value-small c =
-    subst (λ (v : Kopecks). natAbs (v .0) ≤ 1_000_000_000) (sym (c .value-at .ensures))
-    (value-within (book (c .before) .k .most) (accepted (c .before) .size .price-range .most))
-
-buying : (c : tie.After-moved) → c .moved .result ≡ moved (sectionAt (c .before .before .before .before .args .t1) (c .before .before .before .before .args .buyer)) (record { 0 = pos (c .before .before .before .before .args .lots) }) (valueAt (c .before .before .before .before .args .t1) (c .before .before .before .before .args .price))
+buying : (c : tie.After-bought) → c .bought .result ≡ moved (sectionAt (c .before .before .before .before .args .t1) (c .before .before .before .before .args .buyer)) (record { 0 = pos (c .before .before .before .before .args .lots) }) (valueAt (c .before .before .before .before .args .t1) (c .before .before .before .before .args .price))
 buying c =
-    c .moved .ensures
-    ∙ ap₂ (λ (z : ℤ) (v : Kopecks). moved (sectionAt (c .before .before .before .before .args .t1) (c .before .before .before .before .args .buyer)) (record { 0 = z }) v) (bought _ (lots-most (c .before .before .before .before))) (c .before .before .before .value-at .ensures)
+    c .bought .ensures
+    ∙ ap (λ (v : Kopecks). moved (sectionAt (c .before .before .before .before .args .t1) (c .before .before .before .before .args .buyer)) (record { 0 = pos (c .before .before .before .before .args .lots) }) v) (c .before .before .before .value-at .ensures)
 
-selling : (c : tie.After-moved2) → c .moved2 .result ≡ moved (sectionAt (c .before .before .before .before .before .args .t1) (c .before .before .before .before .before .args .seller)) (record { 0 = negℤ (pos (c .before .before .before .before .before .args .lots)) }) (valueAt (c .before .before .before .before .before .args .t1) (c .before .before .before .before .before .args .price))
+selling : (c : tie.After-sold) → c .sold .result ≡ moved (sectionAt (c .before .before .before .before .before .args .t1) (c .before .before .before .before .before .args .seller)) (record { 0 = negℤ (pos (c .before .before .before .before .before .args .lots)) }) (valueAt (c .before .before .before .before .before .args .t1) (c .before .before .before .before .before .args .price))
 selling c =
-    c .moved2 .ensures
-    ∙ ap₂ (λ (z : ℤ) (v : Kopecks). moved (sectionAt (c .before .before .before .before .before .args .t1) (c .before .before .before .before .before .args .seller)) (record { 0 = z }) v) (sold _ (lots-most (c .before .before .before .before .before))) (c .before .before .before .before .value-at .ensures)
+    c .sold .ensures
+    ∙ ap (λ (v : Kopecks). moved (sectionAt (c .before .before .before .before .before .args .t1) (c .before .before .before .before .before .args .seller)) (record { 0 = negℤ (pos (c .before .before .before .before .before .args .lots)) }) v) (c .before .before .before .before .value-at .ensures)
 
 value-at-requires : tie.Need-value-at-requires
 value-at-requires c κs = book c .k .most
@@ -55,20 +45,11 @@ mul-t c = search needs
 element-copy-out-t : tie.Need-element-copy-out-t
 element-copy-out-t c = seller-place (c .before .before)
 
-cast-t23 : tie.Need-cast-t23
-cast-t23 c = search needs
+bought-requires : tie.Need-bought-requires
+bought-requires c κs = λ none. movable (accepted (c .before .before .before)) (c .before .before .value-at .ensures) _ (accepted (c .before .before .before) .party .buyer-known)
 
-moved-requires : tie.Need-moved-requires
-moved-requires c κs = ((held-good _ (book (c .before .before .before)) _ (accepted (c .before .before .before) .party .buyer-known) .position, held-basis _ (book (c .before .before .before)) _ (accepted (c .before .before .before) .party .buyer-known)), (bought-small _ (lots-most (c .before .before .before)), value-small (c .before .before)))
-
-cast-t23-2 : tie.Need-cast-t23-2
-cast-t23-2 c = search needs
-
-sub-t25 : tie.Need-sub-t25
-sub-t25 c = sold-fits _ (lots-most (c .before .before .before .before))
-
-moved-requires-2 : tie.Need-moved-requires-2
-moved-requires-2 c κs = ((held-good _ (book (c .before .before .before .before)) _ (accepted (c .before .before .before .before) .party .seller-known) .position, held-basis _ (book (c .before .before .before .before)) _ (accepted (c .before .before .before .before) .party .seller-known)), (sold-small _ (lots-most (c .before .before .before .before)), value-small (c .before .before .before)))
+sold-requires : tie.Need-sold-requires
+sold-requires c κs = λ none. movable (accepted (c .before .before .before .before)) (c .before .before .before .value-at .ensures) _ (accepted (c .before .before .before .before) .party .seller-known)
 
 mul-buying : tie.Need-mul-buying
 mul-buying c = search needs
@@ -98,11 +79,8 @@ traded-spec =
     element-copy-out-s
     mul-t
     element-copy-out-t
-    cast-t23
-    moved-requires
-    cast-t23-2
-    sub-t25
-    moved-requires-2
+    bought-requires
+    sold-requires
     mul-buying
     element-set-from-buying
     mul-selling

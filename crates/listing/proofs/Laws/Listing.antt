@@ -29,7 +29,7 @@ module _ (b : Book) (lines : ℕ) (buyers elevators sellers lots delivered termi
   parts = headRow lines ∷ texts lineAt lines ∷ texts sectionRowAt (b .held) ∷ []
 
   module _ (same : (i : ℕ) → i < 128 → codeAt codes i ≡ sectionAt b i .code) (held : b .held ≤ 128) (named : (i : ℕ) → i < lines → (entry buyers i < 128) × (entry sellers i < 128) × (entry lots i ≤ 1_000_000)) where
-    lines-same : (i : ℕ) → i < lines → lineAt i ≡ lineRow b lists i
+    pub lines-same : (i : ℕ) → i < lines → lineAt i ≡ lineRow b lists i
     unfolding lineRow
     lines-same i h =
         ap₂ (λ (x y : List ℕ). row (x ∷ decimal (entry elevators i) ∷ y ∷ decimal (entry lots i) ∷ decimal (tonnesOf (b .lot) (record { 0 = pos (entry lots i) }) .0) ∷ [])) (same _ (named i h .0)) (same _ (named i h .1))

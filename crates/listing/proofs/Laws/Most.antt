@@ -29,7 +29,7 @@ unfolding decimal
 decimal-most k n h = omega (arith, digits-most 20 k n [] h)
 
 -- and a whole number one more for its sign
-signed-most : (k : ℕ) (z : ℤ) → natAbs z < 10 ^ suc k → length (signedDecimal z) ≤ suc (suc k)
+pub signed-most : (k : ℕ) (z : ℤ) → natAbs z < 10 ^ suc k → length (signedDecimal z) ≤ suc (suc k)
 signed-most k z h = by-sign (ltZ z (pos 0)) refl
   where
     by-sign : (t : Bool) → ltZ z (pos 0) ≡ t → length (signedDecimal z) ≤ suc (suc k)
@@ -37,7 +37,7 @@ signed-most k z h = by-sign (ltZ z (pos 0)) refl
     by-sign false e = rw (above-zero z e) (omega (arith, decimal-most k (natAbs z) h))
 
 -- the rows
-head-most : (lines : ℕ) → lines ≤ 382 → length (headRow lines) ≤ 13
+pub head-most : (lines : ℕ) → lines ≤ 382 → length (headRow lines) ≤ 13
 unfolding row bytes
 head-most lines h = simp length-append (omega (arith, decimal-most 2 lines (omega (arith, h))))
 
@@ -52,7 +52,7 @@ module _ {b : Book} {lines : ℕ} {buyers elevators sellers lots delivered termi
   abbrev lent : Lent
   lent = record { lists = lists; sums = sums }
 
-  line-most : (i : ℕ) → i < lines → length (lineRow b lists i) ≤ 38
+  pub line-most : (i : ℕ) → i < lines → length (lineRow b lists i) ≤ 38
   unfolding lineRow row tonnesOf
   line-most i h =
       let e = l .line i h in

@@ -22,7 +22,7 @@ laid-requires : tie.Need-laid-requires
 laid-requires c κs = search needs
 
 head-requires : tie.Need-head-requires
-head-requires c κs = omega (arith, room-next (start (c .before .before)))
+head-requires c κs = room-next (start (c .before .before))
 
 slice-aggregate-lines : tie.Need-slice-aggregate-lines
 slice-aggregate-lines c = search needs

@@ -1,6 +1,6 @@
 //! One call with lists lent, and what it may write.
 
-use super::{Call, Entry, Expiry, Lengths, Outcome, Step};
+use super::{Entry, Expiry, Lengths, Outcome, Single, Step};
 use crate::reading::book::Book;
 use crate::reading::calls::{Counts, ExpiryLists};
 use crate::reading::file::event::Event;
@@ -37,6 +37,19 @@ impl Lent {
         }
     }
 
+    /// Makes one call on the book with these lists.
+    fn make(&mut self, book: &mut Book, event: &Event) -> Result<Counts, Refusal> {
+        let lists = ExpiryLists {
+            buyers: &mut self.buyers,
+            elevators: &mut self.elevators,
+            sellers: &mut self.sellers,
+            lots: &mut self.lots,
+            delivered: &mut self.delivered,
+            terminated: &mut self.terminated,
+        };
+        event.call(book, &mut self.margins, lists)
+    }
+
     /// The entries from the start of the four register lists.
     fn register(&self, lines: usize) -> Vec<Entry> {
         let entry = |i: usize| Entry {
@@ -60,49 +73,13 @@ impl Lent {
     }
 }
 
-/// Makes one call on the book with lists lent.
-fn make(book: &mut Book, event: &Event, lent: &mut Lent) -> Result<Counts, Refusal> {
-    let none = Counts::default();
-    match *event {
-        Event::Section {
-            settlement_code,
-            seller,
-            code,
-            participant,
-        } => book
-            .section(settlement_code, seller, code, participant)
-            .map(|()| none),
-        Event::Trade {
-            buyer,
-            seller,
-            price,
-            lots,
-        } => book.trade(buyer, seller, price, lots).map(|()| none),
-        Event::Session { price } => book.session(price, &mut lent.margins).map(|()| none),
-        Event::Condition { section, met } => book.condition(section, met).map(|()| none),
-        Event::Notice {
-            section,
-            elevator,
-            lots,
-        } => book.notice(section, elevator, lots).map(|()| none),
-        Event::Expiry => book.expiry(ExpiryLists {
-            buyers: &mut lent.buyers,
-            elevators: &mut lent.elevators,
-            sellers: &mut lent.sellers,
-            lots: &mut lent.lots,
-            delivered: &mut lent.delivered,
-            terminated: &mut lent.terminated,
-        }),
-    }
-}
-
 /// Makes one call and checks demand 1's last sentence: refused, "the book and
 /// every lent entry remain as they were"; accepted, no entry but those used.
-pub(super) fn make_checked(book: &mut Book, call: &Call, held: usize) -> Result<Step, String> {
+pub(super) fn make_checked(book: &mut Book, call: &Single, held: usize) -> Result<Step, String> {
     let lent = Lent::new(&call.lengths);
     let mut lists = lent.clone();
     let before = book.clone();
-    let answer = make(book, &call.event, &mut lists);
+    let answer = lists.make(book, &call.event);
     let (margins, lines, sections) = match (&answer, call.event) {
         (Ok(_), Event::Session { .. }) => (held, 0, 0),
         (Ok(counts), Event::Expiry) => (0, counts.lines, held),

@@ -4,12 +4,15 @@
 //! A history keeps what was called and what was answered. The claims are
 //! worked out from the accepted calls of the history alone; no book is asked.
 
+pub mod block;
 mod claims;
 mod lent;
 
+use crate::reading::book::Book;
 use crate::reading::calls::{Counts, open};
 use crate::reading::file::event::Event;
 use crate::reading::refusal::Refusal;
+use block::Block;
 use lent::make_checked;
 
 /// The lengths of the lists lent to a call.
@@ -22,11 +25,19 @@ pub struct Lengths {
     pub terminated: usize,
 }
 
-/// A call of a list: its values, and how long the lists lent with it are.
+/// A call with its values, and how long the lists lent with it are.
 #[derive(Clone, Copy, Debug, PartialEq, Eq)]
-pub struct Call {
+pub struct Single {
     pub event: Event,
     pub lengths: Lengths,
+}
+
+/// A call of a list. A block "may stand anywhere in a list of calls" (document
+/// 02, b).
+#[derive(Clone, Debug, PartialEq, Eq)]
+pub enum Call {
+    Single(Single),
+    Block(Block),
 }
 
 /// A line of the register as the four lists have it.
@@ -75,10 +86,17 @@ pub struct History {
     pub steps: Vec<Step>,
 }
 
+/// Where a list of calls ends: its history, and the book handed out last.
+#[derive(Clone, Debug, PartialEq, Eq)]
+pub struct Ending {
+    pub history: History,
+    pub book: Book,
+}
+
 /// "Each call, after a refused one too, is given the book handed out just
 /// before, and nobody else alters it between." None where the opening is
 /// refused.
-pub fn run(lot: u32, w: u32, r: u32, calls: &[Call]) -> Result<Option<History>, String> {
+pub fn run(lot: u32, w: u32, r: u32, calls: &[Call]) -> Result<Option<Ending>, String> {
     let (opened, mut book) = open(lot, w, r);
     if opened.is_err() {
         return Ok(None);
@@ -86,11 +104,16 @@ pub fn run(lot: u32, w: u32, r: u32, calls: &[Call]) -> Result<Option<History>, 
     let mut steps = Vec::new();
     let mut held = 0;
     for call in calls {
-        let step = make_checked(&mut book, call, held)?;
-        if step.answer.is_ok() && matches!(step.event, Event::Section { .. }) {
-            held += 1;
+        match call {
+            Call::Single(single) => {
+                let step = make_checked(&mut book, single, held)?;
+                let opens = matches!(step.event, Event::Section { .. });
+                held += usize::from(opens && step.answer.is_ok());
+                steps.push(step);
+            }
+            Call::Block(block) => steps.extend(block.make_checked(&mut book)?),
         }
-        steps.push(step);
     }
-    Ok(Some(History { lot, w, r, steps }))
+    let history = History { lot, w, r, steps };
+    Ok(Some(Ending { history, book }))
 }

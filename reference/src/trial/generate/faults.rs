@@ -82,7 +82,7 @@ pub(super) fn faulty(
 }
 
 /// An event of any kind whose fields are in and out of their limits.
-fn wild_event(random: &mut Random, book: &Book) -> Event {
+pub(super) fn wild_event(random: &mut Random, book: &Book) -> Event {
     match random.below(16) {
         0..4 => wild_section(random, book),
         4..8 => wild_trade(random, book),
@@ -145,13 +145,13 @@ pub(super) fn wild_trade(random: &mut Random, book: &Book) -> Event {
 }
 
 /// The most lots of a trade that both positions can take.
-fn lots_that_fit(book: &Book, buyer: u8, seller: u8) -> u32 {
+pub(super) fn lots_that_fit(book: &Book, buyer: u8, seller: u8) -> u32 {
     let position = |number: u8| book.section_held(number).map_or(0, |s| s.position);
     let room = (1_000_000 - position(buyer)).min(1_000_000 + position(seller));
     room.clamp(0, 10_000) as u32
 }
 
-fn wild_notice(random: &mut Random, book: &Book) -> Event {
+pub(super) fn wild_notice(random: &mut Random, book: &Book) -> Event {
     let held = match book.notices() {
         [] => None,
         notices if random.percent(40) => Some(random.pick(notices)),
@@ -195,7 +195,12 @@ pub(super) fn insert_malformed(random: &mut Random, draft: &mut Draft, aims: &Ai
         true => faulty(random, &book, aim, wild_event),
         false => wild_event(random, &book),
     };
-    let (mut kind, mut operand) = event::encode(&event);
+    draft.events.insert(place, malformed(random, &event));
+}
+
+/// An event of bad form: an unknown kind, a mark above 1 or an unlisted byte.
+pub(super) fn malformed(random: &mut Random, event: &Event) -> Raw {
+    let (mut kind, mut operand) = event::encode(event);
     let layout = event::layout(kind).expect("a known kind");
     let listed = |what: u8| (0..OPERAND).filter(move |&i| layout[i] == what);
     let marks: Vec<usize> = listed(b'm').collect();
@@ -205,7 +210,7 @@ pub(super) fn insert_malformed(random: &mut Random, draft: &mut Draft, aims: &Ai
         1 if !marks.is_empty() => operand[random.pick(&marks)] = random.pick(&[2, 2, 3, 255]),
         _ => operand[random.pick(&unlisted)] = random.pick(&[1, 2, 128, 255]),
     }
-    draft.events.insert(place, (kind, operand));
+    (kind, operand)
 }
 
 /// Gives the opening a lot, W or R that it refuses, or a K.

@@ -3,7 +3,7 @@
 //! Small books reach the refusals, alone and two at once. Medium books are
 //! mostly accepted, with many lines, ties and splits. Books at the limits fill
 //! what can be filled. Damaged files are flipped, cut, lengthened or given a
-//! wrong n.
+//! wrong n. Unruly files, apart from these, go on after a refusal.
 
 mod contracts;
 mod damaged;
@@ -14,6 +14,7 @@ mod markets;
 mod medium;
 mod sized;
 mod small;
+pub mod unruly;
 
 use crate::reading::book::Book;
 use crate::reading::calls::open;
@@ -24,7 +25,7 @@ use crate::trial::random::Random;
 use damaged::damaged;
 use limits::limits;
 use medium::medium;
-pub use sized::sized;
+pub use sized::{sized, trading};
 use small::small;
 
 /// The four kinds of file.

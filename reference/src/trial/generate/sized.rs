@@ -41,13 +41,38 @@ pub fn sized(sections: usize, events: usize) -> Option<Vec<u8>> {
     all.extend(body);
     all.extend(end);
     all.push(Event::Expiry);
-    let contract = Contract {
-        lot: 25,
-        w: 2_500,
-        r: 100,
-    };
-    Some(Draft::new(contract, &all).bytes())
+    Some(Draft::new(CONTRACT, &all).bytes())
 }
+
+/// A file of so many sections, none or more than one, and events, all accepted:
+/// after the sections come trades, each made and undone, and a session after
+/// every 1,500 of them. It has no expiry. None where there are fewer events than
+/// sections.
+pub fn trading(sections: usize, events: usize) -> Option<Vec<u8>> {
+    let mut all = opened(&mut Random::new(SEED), 0, sections);
+    let more = events.checked_sub(sections)?;
+    all.extend((0..more).map(|turn| match turn % 1_501 {
+        1_500 => session(price(turn)),
+        _ => one_of_two(turn, sections),
+    }));
+    Some(Draft::new(CONTRACT, &all).bytes())
+}
+
+/// A trade of a section with the next, or the one that undoes it.
+fn one_of_two(turn: usize, sections: usize) -> Event {
+    let buyer = turn / 2 % sections;
+    let (buyer, seller) = (buyer as u8, ((buyer + 1) % sections) as u8);
+    match turn % 2 {
+        0 => trade(buyer, seller, price(turn), 10),
+        _ => trade(seller, buyer, price(turn), 10),
+    }
+}
+
+const CONTRACT: Contract = Contract {
+    lot: 25,
+    w: 2_500,
+    r: 100,
+};
 
 /// Chosen so that no lots meet by chance, with 16, 32, 64 or 128 sections.
 const SEED: u64 = 30;

@@ -1,4 +1,4 @@
-use Rattle.numbers.proofs.Words.{needs, zero-add}
+use Rattle.numbers.proofs.Words.{needs}
 use Rattle.numbers.specs.Text.{bytes}
 use Rattle.listing.proofs.rows.head.Statement.{statement}
 use Rattle.listing.proofs.rows.head.Tie as tie
@@ -8,7 +8,7 @@ slice-aggregate-row c = search needs
 
 row-requires : tie.Need-row-requires
 unfolding bytes
-row-requires c κs = rw zero-add (c .before .before .before .pre)
+row-requires c κs = c .before .before .before .pre
 
 same-length : tie.Need-same-length
 same-length c = search needs

@@ -1,0 +1,39 @@
+use Rattle.numbers.proofs.Words.{needs, arith, [], _∷_, now}
+use Rattle.numbers.specs.Text.{decimal}
+use Rattle.listing.specs.Columns.{codeAt}
+use Rattle.listing.proofs.Laws.Parts.{Begun, begun-row, ended, room-field, then, finished}
+use Rattle.calls_listing.specs.Texts.{lotsRowOf}
+use Rattle.calls_listing.proofs.lots.row.Statement.{statement}
+use Rattle.calls_listing.proofs.lots.row.Tie as tie
+
+start : (c : tie.Start) → Begun (now (c .args .out)) (c .args .at) (lotsRowOf (now (c .args .codes)) (c .args .i) (c .args .delivered) (c .args .terminated)) (now (c .args .out)) (c .args .at) (ended (codeAt (now (c .args .codes)) (c .args .i) ∷ decimal (c .args .delivered) ∷ decimal (c .args .terminated) ∷ []))
+start c = begun-row _ _ _ (c .pre .1)
+
+code-requires : tie.Need-code-requires
+code-requires c κs =
+    let a = c .before .before .before .args in
+    (omega arith, room-field (codeAt (now (a .codes)) (a .i)) 32 (start (c .before .before .before)))
+
+number-requires : tie.Need-number-requires
+number-requires c κs =
+    let first = c .before .before .before in
+    room-field (decimal _) 32 (then (start (first .before .before .before .before)) (first .code .ensures))
+
+number-requires-2 : tie.Need-number-requires-2
+number-requires-2 c κs =
+    let second = c .before .before .before in
+    let first = second .before .before .before .before in
+    room-field (decimal _) 10 (then (then (start (first .before .before .before .before)) (first .code .ensures)) (second .number .ensures))
+
+same-length : tie.Need-same-length
+same-length c = search needs
+
+returns : tie.Need-returns
+returns c =
+    let third = c .before .before in
+    let second = third .before .before .before .before in
+    let first = second .before .before .before .before in
+    finished (then (then (then (start (first .before .before .before .before)) (first .code .ensures)) (second .number .ensures)) (third .number2 .ensures))
+
+pub row-spec : {M : Type 1} → statement M
+row-spec = tie.close (tie.spec code-requires number-requires number-requires-2 same-length returns)
