@@ -1,10 +1,14 @@
--- The program's steps: each prints the next part of the whole.
-use Rattle.numbers.proofs.Words.{ℕ, _-_, _≤_, _<_, arith, _≡_, sym, ap, _∙_, List, [], _++_, append-assoc, length}
+-- The program's steps: each prints the next part of the whole; and that no byte of the input is missed.
+use Rattle.numbers.proofs.Words.{ℕ, _-_, _≤_, _<_, arith, _≡_, sym, ap, _∙_, ⊎-elim, true, List, [], _∷_, _++_, append-assoc, take, length}
 use Rattle.rules.specs.declared.book.{Book.Book}
-use Rattle.rules.specs.CallsListing.{shownFrom}
+use Rattle.numbers.specs.Text.{bytes, decimal}
+use Rattle.rules.specs.File.{misshapen}
+use Rattle.rules.specs.Listing.{row}
+use Rattle.rules.specs.CallsListing.{shownFrom, callsPrinted}
 use Rattle.listing.proofs.Laws.Laid.{laid-length}
 use Rattle.file_calls.specs.declared.{Opening.Opening, Shown.Shown}
 use Rattle.file_calls.specs.Steps.{Opens, Stands, Steps}
+use Rattle.program_io.proofs.Start.{start}
 use Rattle.calls.specs.Printing.{Printing}
 
 -- the start: nothing is done (01, Reading, 1)
@@ -36,3 +40,15 @@ module _ {file : List ℕ} {n place : ℕ} {b : Book} {was now : List ℕ} {s : 
 
   pub step-within : s .written ≤ length now
   step-within = omega (arith, step-long, step .laid .ends, step .short)
+
+-- a misshapen file prints its refusal, whatever its bytes (01, Reading, 1; 01, Program, 2)
+bad-shown : (file : List ℕ) → misshapen file ≡ true → callsPrinted file ≡ row (bytes "refused" ∷ decimal 25 ∷ decimal 0 ∷ [])
+unfolding callsPrinted
+bad-shown file e = rw (e, callsPrinted, e)
+
+-- so what comes after the bytes that the program reads changes nothing (01, Reading, 1)
+pub start-shown : (file : List ℕ) (most : ℕ) → 64_616 < most → callsPrinted (take most file) ≡ callsPrinted file
+start-shown file most h =
+    ⊎-elim (λ (same : take most file ≡ file). ap callsPrinted same)
+    (λ (bad : (misshapen file ≡ true) × (misshapen (take most file) ≡ true)). bad-shown (take most file) (bad .1) ∙ sym (bad-shown file (bad .0)))
+    (start file most h)
