@@ -3,7 +3,7 @@ use Rattle.rules.specs.Words.{ℕ, _+_, List, [], _∷_, cond, ltb, flatMap, co
 use Rattle.rules.specs.declared.book.{Book.Book}
 use Rattle.rules.specs.Listing.{row}
 use Rattle.rules.specs.CallsListing.{callRow, deliveryRows}
-use Rattle.listing.specs.Columns.{codeAt, field}
+use Rattle.listing.specs.Columns.{field, lotsFields}
 
 -- the rows of calls that follow one another, from a place on (02, b, 3)
 abbrev pub answerRows : ℕ → List ℕ → List ℕ
@@ -24,12 +24,9 @@ wholes zs = flatMap (wholeAt zs) (counted 0 (length zs))
 abbrev pub countsRow : ℕ → ℕ → List ℕ
 countsRow pairs lines = row (bytes "expiry" ∷ decimal pairs ∷ decimal lines ∷ [])
 
--- a section's row: code, delivered, terminated; and the rows of the sections held, by number (01, Program, 1)
-abbrev pub lotsRowOf : List ℕ → ℕ → ℕ → ℕ → List ℕ
-lotsRowOf codes i delivered terminated = row (codeAt codes i ∷ decimal delivered ∷ decimal terminated ∷ [])
-
+-- the rows of the lots of the sections held, by number (01, Program, 1)
 abbrev pub lotsRows : List ℕ → List ℕ → List ℕ → ℕ → List ℕ
-lotsRows codes delivered terminated held = flatMap (λ (i : ℕ). lotsRowOf codes i (entry delivered i) (entry terminated i)) (counted 0 held)
+lotsRows codes delivered terminated held = flatMap (λ (i : ℕ). lotsFields codes i (entry delivered i) (entry terminated i) 10) (counted 0 held)
 
 -- what an expiry prints, its counts and lists by name
 abbrev pub delivery : Book → ℕ → ℕ → List ℕ → List ℕ → List ℕ → List ℕ → List ℕ → List ℕ → List ℕ

@@ -51,9 +51,7 @@ fn counts(pairs: usize, lines: usize, out: &mut [u8], at: usize) -> usize
     requires { ⌜ at + length (countsRow pairs lines) ≤ length (now out) ⌝ }
     ensures { λ r. ⌜ Laid (now (out .entry)) at (countsRow pairs lines) (now (out .exit)) r ⌝ }
 {
-    let at = text::word(b"expiry", SPACE, out, at);
-    let at = text::number(pairs as u64, SPACE, out, at);
-    text::number(lines as u64, LINE_END, out, at)
+    text::row_of_two(b"expiry", pairs as u64, lines as u64, out, at)
 }
 
 // An expiry: how many pairs and lines, the lines, and each section's lots (01, Expiry, 7; 01, Program, 1).

@@ -22,6 +22,10 @@ abbrev pub lineRowOf : List ℕ → Tonnes → ℕ → ℕ → ℕ → ℕ → L
 lineRowOf codes lot buyer elevator seller lots =
     row (codeAt codes buyer ∷ decimal elevator ∷ codeAt codes seller ∷ decimal lots ∷ decimal (tonnesOf lot (record { 0 = pos lots }) .0) ∷ [])
 
+-- a section's code and its lots, with the byte that ends them; and its row
+abbrev pub lotsFields : List ℕ → ℕ → ℕ → ℕ → ℕ → List ℕ
+lotsFields codes i delivered terminated end = field (codeAt codes i) 32 ++ (field (decimal delivered) 32 ++ field (decimal terminated) end)
+
 abbrev pub sectionRowOf : List ℕ → ℕ → ℕ → ℕ → ℤ → List ℕ
 sectionRowOf codes i delivered terminated sum = row (codeAt codes i ∷ decimal delivered ∷ decimal terminated ∷ signedDecimal sum ∷ [])
 

@@ -58,9 +58,7 @@ pub fn refused(number: u8, place: usize, out: &mut [u8]) -> usize
     ensures { λ r. ⌜ r ≡ length (refusedRow number place) ⌝ }
     ensures { λ _. ⌜ now (out .exit) ≡ over (refusedRow number place) (now (out .entry)) ⌝ }
 {
-    let at = text::word(b"refused", text::SPACE, out, 0);
-    let at = text::number(number as u64, text::SPACE, out, at);
-    text::number(place as u64, text::LINE_END, out, at)
+    text::row_of_two(b"refused", number as u64, place as u64, out, 0)
 }
 
 // A refusal's row where it has no place: its number alone. It answers the next place (02, e, 5; 02, l, 4).

@@ -1,7 +1,7 @@
 // The rows of a listing, written into a buffer from a place on. Each function answers the next place.
 ghost use Rattle.rules.specs.Words.{ℕ, _+_, _≡_, _≤_, _<_, natAbs, length, entry};
 ghost use Rattle.rules.specs.Units;
-ghost use Rattle.listing.specs.Columns.{headRow, lineRowOf, lineRows, sectionRowOf, sectionRows};
+ghost use Rattle.listing.specs.Columns.{headRow, lineRowOf, lineRows, lotsFields, sectionRowOf, sectionRows};
 ghost use Rattle.listing.specs.Laid.{Laid};
 use crate::text;
 use crate::text::LINE_END;
@@ -52,6 +52,25 @@ fn line(
     text::number(weight.0 as u64, LINE_END, out, at)
 }
 
+// A section's code, delivered and terminated lots, and the byte that ends the last of them (01, Program, 1).
+pub fn lots(
+    codes: &[u8],
+    i: usize,
+    delivered: u32,
+    terminated: u32,
+    end: u8,
+    out: &mut [u8],
+    at: usize,
+) -> usize
+    requires { ⌜ (length (now codes) ≡ 896) × (i < 128) ⌝ }
+    requires { ⌜ at + length (lotsFields (now codes) i delivered terminated end) ≤ length (now out) ⌝ }
+    ensures { λ r. ⌜ Laid (now (out .entry)) at (lotsFields (now (codes .entry)) i delivered terminated end) (now (out .exit)) r ⌝ }
+{
+    let at = text::code(codes, i, SPACE, out, at);
+    let at = text::number(delivered as u64, SPACE, out, at);
+    text::number(terminated as u64, end, out, at)
+}
+
 // A section's row: code, delivered, terminated, sum of its margins (01, Program, 1).
 fn section(
     codes: &[u8],
@@ -66,9 +85,7 @@ fn section(
     requires { ⌜ at + length (sectionRowOf (now codes) i delivered terminated sum) ≤ length (now out) ⌝ }
     ensures { λ r. ⌜ Laid (now (out .entry)) at (sectionRowOf (now (codes .entry)) i delivered terminated sum) (now (out .exit)) r ⌝ }
 {
-    let at = text::code(codes, i, SPACE, out, at);
-    let at = text::number(delivered as u64, SPACE, out, at);
-    let at = text::number(terminated as u64, SPACE, out, at);
+    let at = lots(codes, i, delivered, terminated, SPACE, out, at);
     text::whole(sum, LINE_END, out, at)
 }
 

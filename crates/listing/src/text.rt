@@ -62,6 +62,16 @@ pub fn row(name: &[u8], n: u64, out: &mut [u8], at: usize) -> usize
     number(n, LINE_END, out, next)
 }
 
+// A row of a word and two numbers (01, Program, 3).
+pub fn row_of_two(name: &[u8], n: u64, m: u64, out: &mut [u8], at: usize) -> usize
+    requires { ⌜ at + length (row (now name ∷ decimal n ∷ decimal m ∷ [])) ≤ length (now out) ⌝ }
+    ensures { λ r. ⌜ Laid (now (out .entry)) at (row (now (name .entry) ∷ decimal n ∷ decimal m ∷ [])) (now (out .exit)) r ⌝ }
+{
+    let next = word(name, SPACE, out, at);
+    let next = number(n, SPACE, out, next);
+    number(m, LINE_END, out, next)
+}
+
 // With a minus sign where it is below 0.
 pub fn whole(z: i64, end: u8, out: &mut [u8], at: usize) -> usize
     requires { ⌜ at + length (signedDecimal z) < length (now out) ⌝ }

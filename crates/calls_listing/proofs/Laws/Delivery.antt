@@ -1,23 +1,23 @@
 -- An expiry's text over what the writer is lent is that of the definitions (01, Expiry, 7; 01, Program, 1).
-use Rattle.numbers.proofs.Words.{ℕ, _≤_, _<_, arith, _≡_, sym, ap, List, [], _∷_, append-assoc, append-nil, entry}
+use Rattle.numbers.proofs.Words.{ℕ, _≤_, _<_, arith, _≡_, sym, ap, _∙_, List, [], _∷_, append-assoc, append-nil, entry}
 use Rattle.numbers.specs.Text.{decimal}
 use Rattle.rules.specs.declared.book.{Book.Book}
 use Rattle.rules.specs.Book.{sectionAt}
 use Rattle.rules.specs.Expiry.Call.{Lists}
 use Rattle.rules.specs.Listing.{row}
 use Rattle.rules.specs.CallsListing.{lotsRow, deliveryRows}
-use Rattle.listing.specs.Columns.{codeAt, headRow, lineRowOf}
+use Rattle.listing.specs.Columns.{codeAt, headRow, lineRowOf, lotsFields}
 use Rattle.listing.proofs.Laws.Listing.{lines-same}
-use Rattle.listing.proofs.Laws.Parts.{joined}
+use Rattle.listing.proofs.Laws.Parts.{joined, lots-row}
 use Rattle.listing.proofs.Laws.Rows.{texts, texts-same}
-use Rattle.calls_listing.specs.Texts.{countsRow, lotsRowOf, delivery}
+use Rattle.calls_listing.specs.Texts.{countsRow, delivery}
 
 module _ (b : Book) (pairs lines : ℕ) (buyers elevators sellers lots delivered terminated codes : List ℕ) where
   abbrev lineAt : ℕ → List ℕ
   lineAt i = lineRowOf codes (b .lot) (entry buyers i) (entry elevators i) (entry sellers i) (entry lots i)
 
   abbrev lotsAt : ℕ → List ℕ
-  lotsAt i = lotsRowOf codes i (entry delivered i) (entry terminated i)
+  lotsAt i = lotsFields codes i (entry delivered i) (entry terminated i) 10
 
   abbrev lists : Lists
   lists = record { buyers = buyers; elevators = elevators; sellers = sellers; lots = lots; delivered = delivered; terminated = terminated }
@@ -28,7 +28,7 @@ module _ (b : Book) (pairs lines : ℕ) (buyers elevators sellers lots delivered
 
   module _ (same : (i : ℕ) → i < 128 → codeAt codes i ≡ sectionAt b i .code) (held : b .held ≤ 128) (named : (i : ℕ) → i < lines → (entry buyers i < 128) × (entry sellers i < 128) × (entry lots i ≤ 1_000_000)) where
     lots-same : (i : ℕ) → i < b .held → lotsAt i ≡ lotsRow b lists i
-    lots-same i h = ap (λ (x : List ℕ). row (x ∷ decimal (entry delivered i) ∷ decimal (entry terminated i) ∷ [])) (same i (omega (arith, h, held)))
+    lots-same i h = sym (lots-row codes i (entry delivered i) (entry terminated i)) ∙ ap (λ (x : List ℕ). row (x ∷ decimal (entry delivered i) ∷ decimal (entry terminated i) ∷ [])) (same i (omega (arith, h, held)))
 
     pub delivery-parts : delivery b pairs lines buyers elevators sellers lots delivered terminated ≡ joined parts
     unfolding deliveryRows

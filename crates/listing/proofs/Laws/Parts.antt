@@ -1,7 +1,8 @@
 -- A text written part by part: what stands, and the parts that are left.
-use Rattle.numbers.proofs.Words.{ℕ, _+_, _≤_, _<_, arith, _≡_, refl, sym, ap, _∙_, List, [], _∷_, _++_, append-assoc, append-nil, length, length-append}
+use Rattle.numbers.proofs.Words.{ℕ, _+_, _≤_, _<_, arith, _≡_, refl, sym, ap, _∙_, List, [], _∷_, _++_, append-assoc, append-nil, length, length-append, ℤ}
 use Rattle.rules.specs.Listing.{row}
-use Rattle.listing.specs.Columns.{field}
+use Rattle.numbers.specs.Text.{decimal, signedDecimal}
+use Rattle.listing.specs.Columns.{codeAt, field, lotsFields, sectionRowOf}
 use Rattle.listing.specs.Laid.{Laid}
 use Rattle.listing.proofs.Laws.Laid.{laid-none, laid-then, laid-length}
 
@@ -61,3 +62,21 @@ module _ {was : List ℕ} {at : ℕ} {whole mid : List ℕ} {next : ℕ} where
   -- nothing is left
   pub finished : Begun was at whole mid next [] → Laid was at whole mid next
   finished b = rw (b .parts, append-nil) (b .laid)
+
+-- a section's code and lots part by part, and a section's row with them as one part (01, Program, 1)
+module _ (codes : List ℕ) (i delivered terminated : ℕ) where
+  pub lots-parts : (end : ℕ) → lotsFields codes i delivered terminated end ≡ joined (field (codeAt codes i) 32 ∷ field (decimal delivered) 32 ∷ field (decimal terminated) end ∷ [])
+  lots-parts end = ap (λ (last : List ℕ). field (codeAt codes i) 32 ++ (field (decimal delivered) 32 ++ last)) (sym (append-nil (field (decimal terminated) end)))
+
+  pub lots-row : row (codeAt codes i ∷ decimal delivered ∷ decimal terminated ∷ []) ≡ lotsFields codes i delivered terminated 10
+  lots-row = row-joined (codeAt codes i ∷ decimal delivered ∷ decimal terminated ∷ []) ∙ sym (lots-parts 10)
+
+  pub section-parts : (sum : ℤ) → sectionRowOf codes i delivered terminated sum ≡ joined (lotsFields codes i delivered terminated 32 ∷ field (signedDecimal sum) 10 ∷ [])
+  section-parts sum =
+      let code = field (codeAt codes i) 32 in
+      let first = field (decimal delivered) 32 in
+      let second = field (decimal terminated) 32 in
+      let last = joined (field (signedDecimal sum) 10 ∷ []) in
+      row-joined (codeAt codes i ∷ decimal delivered ∷ decimal terminated ∷ signedDecimal sum ∷ [])
+      ∙ ap (λ (rest : List ℕ). code ++ rest) (sym (append-assoc first second last))
+      ∙ sym (append-assoc code (first ++ second) last)

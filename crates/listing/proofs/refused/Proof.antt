@@ -1,52 +1,23 @@
-use Rattle.numbers.proofs.Words.{needs, zero-add, [], _∷_, now}
-use Rattle.numbers.specs.Text.{bytes, decimal}
-use Rattle.listing.specs.Columns.{refusedRow}
+use Rattle.numbers.proofs.Words.{needs, zero-add}
+use Rattle.numbers.specs.Text.{bytes}
 use Rattle.listing.proofs.Laws.Laid.{laid-over}
-use Rattle.listing.proofs.Laws.Parts.{Begun, begun-row, ended, room-field, then, finished}
 use Rattle.listing.proofs.refused.Statement.{statement}
 use Rattle.listing.proofs.refused.Tie as tie
 
-start : (c : tie.Start) → Begun (now (c .args .out)) 0 (refusedRow (c .args .number) (c .args .place)) (now (c .args .out)) 0 (ended (bytes "refused" ∷ decimal (c .args .number) ∷ decimal (c .args .place) ∷ []))
-start c = begun-row _ 0 _ (rw zero-add (c .pre))
+slice-aggregate-row-of-two : tie.Need-slice-aggregate-row-of-two
+slice-aggregate-row-of-two c = search needs
 
-slice-aggregate-word : tie.Need-slice-aggregate-word
-slice-aggregate-word c = search needs
-
-word-requires : tie.Need-word-requires
+row-of-two-requires : tie.Need-row-of-two-requires
 unfolding bytes
-word-requires c κs = room-field (bytes "refused") 32 (start (c .before .before .before))
-
-number-requires : tie.Need-number-requires
-unfolding bytes
-number-requires c κs =
-    let first = c .before .before .before in
-    room-field (decimal _) 32 (then (start (first .before .before .before .before)) (first .word .ensures))
-
-number-requires-2 : tie.Need-number-requires-2
-unfolding bytes
-number-requires-2 c κs =
-    let second = c .before .before .before in
-    let first = second .before .before .before .before in
-    room-field (decimal _) 10 (then (then (start (first .before .before .before .before)) (first .word .ensures)) (second .number .ensures))
+row-of-two-requires c κs = rw zero-add (c .before .before .before .pre)
 
 same-length : tie.Need-same-length
 same-length c = search needs
 
 returns : tie.Need-returns
 unfolding bytes
-returns c =
-    let third = c .before .before in
-    let second = third .before .before .before .before in
-    let first = second .before .before .before .before in
-    laid-over _ (finished (then (then (then (start (first .before .before .before .before)) (first .word .ensures)) (second .number .ensures)) (third .number2 .ensures)))
+returns c = laid-over _ (c .before .before .row-of-two .ensures)
 
 pub refused-spec : {M : Type 1} → statement M
 refused-spec =
-    tie.close
-    (tie.spec
-    slice-aggregate-word
-    word-requires
-    number-requires
-    number-requires-2
-    same-length
-    returns)
+    tie.close (tie.spec slice-aggregate-row-of-two row-of-two-requires same-length returns)

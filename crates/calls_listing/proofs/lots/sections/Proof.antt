@@ -1,11 +1,11 @@
 use Rattle.numbers.proofs.Words.{ℕ, needs, arith, _-_, entry}
 use Rattle.listing.proofs.Laws.Rows.{Rows, rows-start, rows-room, rows-next, rows-length, rows-end}
-use Rattle.calls_listing.specs.Texts.{lotsRowOf}
+use Rattle.listing.specs.Columns.{lotsFields}
 use Rattle.calls_listing.proofs.lots.sections.Statement.{statement}
 use Rattle.calls_listing.proofs.lots.sections.Tie as tie
 
 abbrev Inv-loop : tie.InvT-loop
-Inv-loop codes delivered terminated held out₀ at next₀ i₀ out next i = Rows (λ (j : ℕ). lotsRowOf codes j (entry delivered j) (entry terminated j)) held out₀ at out next i
+Inv-loop codes delivered terminated held out₀ at next₀ i₀ out next i = Rows (λ (j : ℕ). lotsFields codes j (entry delivered j) (entry terminated j) 10) held out₀ at out next i
 
 abbrev μ-loop : tie.MeasureT-loop
 μ-loop codes delivered terminated held out₀ at next₀ i₀ out next i = held - i
@@ -13,20 +13,20 @@ abbrev μ-loop : tie.MeasureT-loop
 loop-holds : tie.Need-loop-holds Inv-loop μ-loop
 loop-holds c = rows-start _ _ _ _ (c .before .before .before .before .pre .1)
 
-mul-row : tie.Need-mul-row Inv-loop μ-loop
-mul-row c = search needs
+mul-lots : tie.Need-mul-lots Inv-loop μ-loop
+mul-lots c = search needs
 
-shared-slice-read-row : tie.Need-shared-slice-read-row Inv-loop μ-loop
-shared-slice-read-row c = omega arith
+shared-slice-read-lots : tie.Need-shared-slice-read-lots Inv-loop μ-loop
+shared-slice-read-lots c = omega arith
 
-mul-row-2 : tie.Need-mul-row-2 Inv-loop μ-loop
-mul-row-2 c = search needs
+mul-lots-2 : tie.Need-mul-lots-2 Inv-loop μ-loop
+mul-lots-2 c = search needs
 
-shared-slice-read-row-2 : tie.Need-shared-slice-read-row-2 Inv-loop μ-loop
-shared-slice-read-row-2 c = omega arith
+shared-slice-read-lots-2 : tie.Need-shared-slice-read-lots-2 Inv-loop μ-loop
+shared-slice-read-lots-2 c = omega arith
 
-row-requires : tie.Need-row-requires Inv-loop μ-loop
-row-requires c κs =
+lots-requires : tie.Need-lots-requires Inv-loop μ-loop
+lots-requires c κs =
     let inside = c .before .before .before in
     let start = c .before .before .before .before .before .before .before .before .before in
     ((start .pre .0 .0, omega arith), rows-room (inside .before .loop .inv) (inside .loop-test .taken))
@@ -38,7 +38,7 @@ loop-less : tie.Need-loop-less Inv-loop μ-loop
 loop-less c = omega arith
 
 loop-again : tie.Need-loop-again Inv-loop μ-loop
-loop-again c = rows-next (c .before .before .before .before .before .before .before .loop .inv) (c .before .before .before .before .before .before .loop-test .taken) (c .before .before .row .ensures)
+loop-again c = rows-next (c .before .before .before .before .before .before .before .loop .inv) (c .before .before .before .before .before .before .loop-test .taken) (c .before .before .lots .ensures)
 
 same-length : tie.Need-same-length Inv-loop μ-loop
 same-length c = rows-length (c .before .loop .inv)
@@ -53,11 +53,11 @@ sections-spec =
     Inv-loop
     μ-loop
     loop-holds
-    mul-row
-    shared-slice-read-row
-    mul-row-2
-    shared-slice-read-row-2
-    row-requires
+    mul-lots
+    shared-slice-read-lots
+    mul-lots-2
+    shared-slice-read-lots-2
+    lots-requires
     add-i
     loop-less
     loop-again

@@ -1,13 +1,12 @@
 use Rattle.numbers.proofs.Words.{needs, arith, [], _∷_, now}
 use Rattle.numbers.specs.Text.{decimal}
-use Rattle.listing.specs.Columns.{codeAt}
-use Rattle.listing.proofs.Laws.Parts.{Begun, begun-row, ended, room-field, then, finished}
-use Rattle.calls_listing.specs.Texts.{lotsRowOf}
-use Rattle.calls_listing.proofs.lots.row.Statement.{statement}
-use Rattle.calls_listing.proofs.lots.row.Tie as tie
+use Rattle.listing.specs.Columns.{codeAt, field, lotsFields}
+use Rattle.listing.proofs.Laws.Parts.{Begun, begun, lots-parts, room-field, then, finished}
+use Rattle.listing.proofs.rows.lots.Statement.{statement}
+use Rattle.listing.proofs.rows.lots.Tie as tie
 
-start : (c : tie.Start) → Begun (now (c .args .out)) (c .args .at) (lotsRowOf (now (c .args .codes)) (c .args .i) (c .args .delivered) (c .args .terminated)) (now (c .args .out)) (c .args .at) (ended (codeAt (now (c .args .codes)) (c .args .i) ∷ decimal (c .args .delivered) ∷ decimal (c .args .terminated) ∷ []))
-start c = begun-row _ _ _ (c .pre .1)
+start : (c : tie.Start) → Begun (now (c .args .out)) (c .args .at) (lotsFields (now (c .args .codes)) (c .args .i) (c .args .delivered) (c .args .terminated) (c .args .end)) (now (c .args .out)) (c .args .at) (field (codeAt (now (c .args .codes)) (c .args .i)) 32 ∷ field (decimal (c .args .delivered)) 32 ∷ field (decimal (c .args .terminated)) (c .args .end) ∷ [])
+start c = begun _ _ _ _ (lots-parts (now (c .args .codes)) (c .args .i) _ _ (c .args .end)) (c .pre .1)
 
 code-requires : tie.Need-code-requires
 code-requires c κs =
@@ -23,7 +22,7 @@ number-requires-2 : tie.Need-number-requires-2
 number-requires-2 c κs =
     let second = c .before .before .before in
     let first = second .before .before .before .before in
-    room-field (decimal _) 10 (then (then (start (first .before .before .before .before)) (first .code .ensures)) (second .number .ensures))
+    room-field (decimal _) _ (then (then (start (first .before .before .before .before)) (first .code .ensures)) (second .number .ensures))
 
 same-length : tie.Need-same-length
 same-length c = search needs
@@ -35,5 +34,6 @@ returns c =
     let first = second .before .before .before .before in
     finished (then (then (then (start (first .before .before .before .before)) (first .code .ensures)) (second .number .ensures)) (third .number2 .ensures))
 
-pub row-spec : {M : Type 1} → statement M
-row-spec = tie.close (tie.spec code-requires number-requires number-requires-2 same-length returns)
+pub lots-spec : {M : Type 1} → statement M
+lots-spec =
+    tie.close (tie.spec code-requires number-requires number-requires-2 same-length returns)
