@@ -14,8 +14,16 @@ use Rattle.calls.specs.Printing.{Printing}
 -- the start: nothing is done (01, Reading, 1)
 pub printing-start : {file was now : List ℕ} {o : Opening} → Opens file was now o → o .number ≡ 0 → Printing file (o .events) 0 (o .book)
 printing-start {file = file} {o = a} o z =
+    let started = o .accepted z in
     let none : a .events ≡ a .events - 0 = omega arith in
-    record { shaped = o .shaped z; events = o .events z; within = omega arith; book = o .book z; done = []; whole = o .shown z ∙ ap (λ (left : ℕ). shownFrom file left 0 (a .book)) none }
+    record {
+      shaped = started .shaped;
+      events = started .events;
+      within = omega arith;
+      book = started .good-book;
+      done = [];
+      whole = started .shown ∙ ap (λ (left : ℕ). shownFrom file left 0 (a .book)) none;
+    }
 
 module _ {file : List ℕ} {n place : ℕ} {b : Book} (p : Printing file n place b) where
   pub stands : {out : List ℕ} → place < n → length out ≡ 34_200 → Stands file n place b out
