@@ -1,5 +1,5 @@
 -- What an accepted call says of its book and its inputs: none of the conditions that would refuse it holds (demand 1).
-use Rattle.numbers.proofs.Words.{ℕ, _≤_, _<_, _%_, arith, _≡_, refl, Bool, true, false, not, _||_, List, leb, ltb, eqb, length, ℤ, pos, negℤ, natAbs, _+ℤ_, leb-true, leb-false, ltb-false, eqb-true, eqb-false, not-false, between, within, _and_, every}
+use Rattle.numbers.proofs.Words.{ℕ, _≤_, _<_, _%_, arith, _≡_, refl, Bool, true, false, not, _||_, List, leb, ltb, eqb, length, ℤ, pos, negℤ, natAbs, _+ℤ_, leb-true, leb-false, le-ltb, ltb-false, eqb-true, eqb-false, not-false, between, within, _and_, every}
 use Rattle.rules.specs.declared.book.{Book.Book}
 use Rattle.numbers.proofs.Tests.{both, or-left, or-right}
 use Rattle.rules.specs.Book.{good, lotGood, stepsGood, factorGood, sectionCodeGood, byteGood, sectionAt, positionOf, heldSections, filedNotices}
@@ -130,6 +130,11 @@ pub record NewSession (b : Book) (price room : ℕ) : Type 0 where
   pub running : b .expired ≡ false
   pub price-range : Between 1 10_000_000 price
   pub places : b .held ≤ room
+
+-- a session is judged alike with any list that is long enough (01, Session, 1)
+pub session-room : (b : Book) (price room more : ℕ) → b .held ≤ room → b .held ≤ more → sessionNumber b price room ≡ sessionNumber b price more
+unfolding sessionNumber
+session-room b price room more h k = rw (le-ltb room (b .held) h, le-ltb more (b .held) k)
 
 pub session : (b : Book) (price room : ℕ) → sessionNumber b price room ≡ 0 → NewSession b price room
 unfolding sessionNumber

@@ -1,13 +1,13 @@
 -- Lists of calls with blocks in them: each comes to the list of the single calls that its calls count as.
-use Rattle.numbers.proofs.Words.{ℕ, zero, suc, _+_, _<_, arith, _≡_, refl, sym, ap, subst, _∙_, ⊎-elim, Bool, true, false, cond, List, [], _∷_, _++_, append-assoc, map, eqb, length, getD, take, entry}
+use Rattle.numbers.proofs.Words.{ℕ, zero, suc, _+_, _<_, arith, _≡_, refl, sym, ap, _∙_, ⊎-elim, Bool, true, false, cond, List, [], _∷_, _++_, append-assoc, map, eqb, length, getD, take, entry}
 use Rattle.numbers.proofs.Tests.{same-or-not}
+use Rattle.numbers.proofs.Ranges.{listed-length, listed-at}
 use Rattle.rules.specs.declared.book.{Book.Book}
 use Rattle.rules.specs.Book.{good}
-use Rattle.rules.specs.Calls.{tradeNumber, traded, tradeAnswer}
-use Rattle.rules.specs.Blocks.{Offer, Block, offersOf, offerAnswer, bookAfterOffers, offerNumbers, blockNumber, blockAnswer}
+use Rattle.rules.specs.Blocks.{Offer, Block, offerAt, offersOf, offerAnswer, bookAfterOffers, offerNumbers, blockNumber, blockAnswer}
 use Rattle.rules.specs.History.{Single, trade, Call, single, block, answerOf, bookAfter, Accepted, accepted, callAnswer, bookAfterCalls, tradesIn, countsAs, history}
 use Rattle.book_laws.proofs.Answers.{kept, written}
-use Rattle.book_laws.proofs.Kept.{Trade.trade-kept}
+use Rattle.book_laws.proofs.Kept.{trade-answered}
 
 -- single calls after others (01, Calls, 3)
 book-joined : (cs ds : List Single) (b : Book) → bookAfter b (cs ++ ds) ≡ bookAfter (bookAfter b cs) ds
@@ -36,6 +36,15 @@ offers-book : (offers : List Offer) (b : Book) → bookAfter b (tradesOf offers)
 unfolding bookAfter bookAfterOffers answerOf
 offers-book [] b = refl
 offers-book (offer ∷ offers) b = offers-book offers (offerAnswer b offer .book)
+
+-- a block has a trade for each buyer (02, b, 2)
+pub offers-long : (trades : Block) → length (offersOf trades) ≡ length (trades .buyers)
+unfolding offersOf
+offers-long trades = listed-length (length (trades .buyers)) (offerAt trades)
+
+pub offer-at : (trades : Block) (i : ℕ) → i < length (trades .buyers) → getD (offersOf trades) i (offerAt trades 0) ≡ offerAt trades i
+unfolding offersOf
+offer-at trades i h = listed-at (length (trades .buyers)) (offerAt trades) i (offerAt trades 0) h
 
 -- the number of one of them: it is given the book that those before it leave (02, b, 3)
 pub offer-number : (offers : List Offer) (b : Book) (i : ℕ) (d : Offer) → i < length offers → entry (offerNumbers b offers) i ≡ offerAnswer (bookAfterOffers b (take i offers)) (getD offers i d) .number
@@ -130,15 +139,9 @@ singles-history (c ∷ cs) b = rw (singles-history cs (answerOf b c .book)) (go 
 
 -- trades offered leave a good book good (01, Book, 5; 02, b, 4)
 pub offers-good : (offers : List Offer) (b : Book) → good b ≡ true → good (bookAfterOffers b offers) ≡ true
-unfolding bookAfterOffers tradeAnswer
+unfolding bookAfterOffers
 offers-good [] b is = is
-offers-good (offer ∷ offers) b is =
-    let number = tradeNumber b (offer .buyer) (offer .seller) (offer .price) (offer .lots) in
-    let new = traded b (offer .buyer) (offer .seller) (offer .price) (offer .lots) in
-    offers-good offers (offerAnswer b offer .book)
-    (⊎-elim (λ (accepts : number ≡ 0). subst (λ (d : Book). good d ≡ true) (written number number new b refl accepts) (trade-kept b _ _ _ _ accepts))
-    (λ refuses. subst (λ (d : Book). good d ≡ true) (kept number number new b refl refuses) is)
-    (same-or-not number 0))
+offers-good (offer ∷ offers) b is = offers-good offers (offerAnswer b offer .book) (trade-answered b _ _ _ _ is)
 
 -- one trade more (02, b, 3)
 after-next : (offers : List Offer) (b : Book) (i : ℕ) (d : Offer) → i < length offers → bookAfterOffers b (take (suc i) offers) ≡ offerAnswer (bookAfterOffers b (take i offers)) (getD offers i d) .book

@@ -1,7 +1,7 @@
 -- The trades of a block one after the other: where a book stands on the way, and what one trade more does.
-use Rattle.numbers.proofs.Words.{ℕ, _+_, _≤_, _<_, arith, _≡_, refl, sym, ap, ap₂, subst, _∙_, ⊎-elim, true, List, length, length-set, getD, set, take, take-all, pos, negℤ, natAbs, set-getD, entry}
+use Rattle.numbers.proofs.Words.{ℕ, _+_, _≤_, _<_, arith, _≡_, refl, sym, ap, ap₂, subst, _∙_, ⊎-elim, true, List, length, length-set, set, take, take-all, pos, negℤ, natAbs, set-getD, entry}
 use Rattle.numbers.proofs.Tests.{same-or-not}
-use Rattle.numbers.proofs.Ranges.{listed-length, listed-at, listed-entries}
+use Rattle.numbers.proofs.Ranges.{listed-entries}
 use Rattle.numbers.proofs.Filled.{Filled, filled-none, filled-next, filled-end}
 use Rattle.rules.specs.declared.{book.Book.Book, book.Section.Section, units.Kopecks.Kopecks}
 use Rattle.rules.specs.Book.{good, sectionOf, positionOf, valueAt}
@@ -9,7 +9,7 @@ use Rattle.rules.specs.Calls.{handedOut, moved, traded, tradeNumber, tradeAnswe
 use Rattle.rules.specs.Blocks.{Offer, Block, offerAt, offersOf, offerAnswer, bookAfterOffers, offerNumbers}
 use Rattle.book_laws.proofs.Accepted.{NewTrade, trade}
 use Rattle.book_laws.proofs.Answers.{kept, written}
-use Rattle.book_laws.proofs.Blocks.{offers-good, offers-next, offer-number, offers-numbered}
+use Rattle.book_laws.proofs.Blocks.{offers-long, offer-at, offers-good, offers-next, offer-number, offers-numbered}
 use Rattle.call_block.specs.Lists.{standing}
 use Rattle.call_trade.specs.Offered.{placeOf, offeredNumber, Movable}
 use Rattle.call_trade.proofs.Laws.{place-position, offered-at, movable}
@@ -23,14 +23,6 @@ pub record Walk (b : Book) (trades : Block) (was : List ℕ) (sections : List Se
 pub walk-start : (b : Book) (trades : Block) (was : List ℕ) → length (b .sections) ≡ 128 → Walk b trades was (b .sections) (b .trades) was 0
 unfolding bookAfterOffers
 walk-start b trades was places = record { places = places; book = refl; answers = filled-none _ _ }
-
-offers-long : (trades : Block) → length (offersOf trades) ≡ length (trades .buyers)
-unfolding offersOf
-offers-long trades = listed-length (length (trades .buyers)) (offerAt trades)
-
-offer-at : (trades : Block) (i : ℕ) → i < length (trades .buyers) → getD (offersOf trades) i (offerAt trades 0) ≡ offerAt trades i
-unfolding offersOf
-offer-at trades i h = listed-at (length (trades .buyers)) (offerAt trades) i (offerAt trades 0) h
 
 -- at the end of the block
 pub walk-end : {b : Book} {trades : Block} {was : List ℕ} {sections : List Section} {count : ℕ} {now : List ℕ} {i : ℕ} → Walk b trades was sections count now i

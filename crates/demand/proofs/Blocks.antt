@@ -1,12 +1,11 @@
 -- A block anywhere in a list of calls (document 02, b).
 use Rattle.numbers.proofs.Words.{ℕ, arith, _≡_, refl, sym, ap, ap₂, _∙_, not, List, _∷_, _++_, map, eqb, eqb-true, not-false, length, take, some, entry}
-use Rattle.numbers.proofs.Ranges.{listed-length, listed-at}
 use Rattle.numbers.proofs.Tests.{or-left}
 use Rattle.rules.specs.declared.book.{Book.Book}
 use Rattle.rules.specs.Blocks.{Block, offerAt, offersOf, offerAnswer, bookAfterOffers, offerNumbers, blockNumber, blockAnswers}
 use Rattle.rules.specs.History.{Call, single, block, Accepted, accepted, bookAfterCalls, tradesIn, history, Alike, BlocksShown}
 use Rattle.book_laws.proofs.Answers.{first-none, written}
-use Rattle.book_laws.proofs.Blocks.{block-counts, block-book, refused-counts, refused-book, calls-book, calls-history, singles-book, singles-history, offer-number}
+use Rattle.book_laws.proofs.Blocks.{block-counts, block-book, refused-counts, refused-book, calls-book, calls-history, singles-book, singles-history, offers-long, offer-at, offer-number}
 
 -- what comes to the same after some calls comes to the same with them
 alike-after : (b : Book) (before calls others : List Call) → Alike (bookAfterCalls b before) calls others → Alike b (before ++ calls) (before ++ others)
@@ -46,7 +45,7 @@ as-many b trades answers accepts =
 
 -- each answer is that of the single call, and the whole comes to the same (02, b, 3 and 4 and 5)
 pub blocks-shown : BlocksShown
-unfolding BlocksShown blockAnswers offersOf
+unfolding BlocksShown blockAnswers
 blocks-shown b before trades answers after =
     let given = bookAfterCalls b before in
     record {
@@ -55,6 +54,6 @@ blocks-shown b before trades answers after =
       answered = λ accepts i h.
           let n = as-many given trades (length answers) accepts in
           ap (λ (list : List ℕ). entry list i) (sym (written _ _ (offerNumbers given (offersOf trades)) answers refl accepts))
-          ∙ offer-number (offersOf trades) given i (offerAt trades 0) (omega (arith, h, n, listed-length (length (trades .buyers)) (offerAt trades)))
-          ∙ ap (λ offer. offerAnswer (bookAfterOffers given (take i (offersOf trades))) offer .number) (listed-at (length (trades .buyers)) (offerAt trades) i (offerAt trades 0) (omega (arith, h, n)));
+          ∙ offer-number (offersOf trades) given i (offerAt trades 0) (omega (arith, h, n, offers-long trades))
+          ∙ ap (λ offer. offerAnswer (bookAfterOffers given (take i (offersOf trades))) offer .number) (offer-at trades i (omega (arith, h, n)));
     }

@@ -1,6 +1,6 @@
 -- What an accepted read hands out is within the limits of a listing, and what a read prints.
-use Rattle.numbers.proofs.Words.{ℕ, _≤_, _<_, arith, _≡_, sym, ap, ap₂, subst, subst₂, _∙_, Bool, true, false, List, length, eq-eqb, ne-eqb, ℤ, natAbs, replicate, listed, entry, entryℤ, over}
-use Rattle.rules.specs.declared.book.{Book.Book, FileAnswer.FileAnswer}
+use Rattle.numbers.proofs.Words.{ℕ, _≤_, arith, _≡_, sym, ap, ap₂, subst, subst₂, _∙_, Bool, true, false, List, length, eq-eqb, ne-eqb, natAbs, replicate, listed, entryℤ, over}
+use Rattle.rules.specs.declared.book.{FileAnswer.FileAnswer}
 use Rattle.rules.specs.Book.{heldSections, filedNotices}
 use Rattle.rules.specs.Calls.{handedOut, count}
 use Rattle.rules.specs.Expiry.Call.{pairs, lines, expiryWritten}
@@ -23,11 +23,6 @@ abbrev pub Listable : FileAnswer → Lent → Type 0
 Listable a lent =
     let ls = lent .lists in
     Limits (a .book) (a .lines) (ls .buyers) (ls .elevators) (ls .sellers) (ls .lots) (ls .delivered) (ls .terminated) (lent .sums)
-
--- what the writer of a listing asks of its lines
-pub lines-asked : {b : Book} {lines : ℕ} {buyers elevators sellers lots delivered terminated : List ℕ} {sums : List ℤ} → Limits b lines buyers elevators sellers lots delivered terminated sums
-    → (i : ℕ) → i < lines → (entry buyers i < 128) × (entry sellers i < 128) × (entry lots i ≤ 1_000_000)
-lines-asked l i h = let e = l .line i h in (omega (arith, e .0, l .held), omega (arith, e .2, l .held), e .3)
 
 module _ (file : List ℕ) (lent : Lent) (e : readWhole file lent .number ≡ 0) where
   abbrev run : Run

@@ -2,8 +2,8 @@ use Rattle.numbers.proofs.Words.{arith, needs, now}
 use Rattle.rules.specs.File.{Lent}
 use Rattle.rules.specs.Listing.{noughts}
 use Rattle.file_read.specs.Lent.{lent}
-use Rattle.listing.proofs.Laws.Most.{listing-most}
-use Rattle.file_listing.proofs.Laws.{lines-asked, said, prints-refusal, listable, prints-accepted}
+use Rattle.listing.proofs.Laws.Most.{lines-asked, listing-most}
+use Rattle.file_listing.proofs.Laws.{said, prints-refusal, listable, prints-accepted}
 use Rattle.file_listing.proofs.printed.Statement.{statement}
 use Rattle.file_listing.proofs.printed.Tie as tie
 

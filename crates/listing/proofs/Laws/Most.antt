@@ -52,6 +52,10 @@ module _ {b : Book} {lines : ℕ} {buyers elevators sellers lots delivered termi
   abbrev lent : Lent
   lent = record { lists = lists; sums = sums }
 
+  -- what the writer asks of its lines
+  pub lines-asked : (i : ℕ) → i < lines → (entry buyers i < 128) × (entry sellers i < 128) × (entry lots i ≤ 1_000_000)
+  lines-asked i h = let e = l .line i h in (omega (arith, e .0, l .held), omega (arith, e .2, l .held), e .3)
+
   pub line-most : (i : ℕ) → i < lines → length (lineRow b lists i) ≤ 38
   unfolding lineRow row tonnesOf
   line-most i h =
