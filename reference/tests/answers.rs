@@ -3,11 +3,13 @@
 mod common;
 
 use common::programs::given;
+use common::without_margins;
 use wheat_delivery::reading::answers::printed;
 use wheat_delivery::reading::file::event::Event;
 use wheat_delivery::reading::file::{EVENTS, length, write};
 use wheat_delivery::reading::listing::listing;
 use wheat_delivery::trial::calls::{file, inputs};
+use wheat_delivery::trial::examples::shared;
 use wheat_delivery::trial::hand::{condition, notice, section, session, trade, worked};
 
 const CALLS: &str = env!("CARGO_BIN_EXE_calls");
@@ -36,17 +38,35 @@ fn the_worked_example_by_hand() {
 margins 2500000 -1000000 -2250000 750000
 8 0\n9 0\n10 0\n11 0\n12 0\n13 0
 14 0
-expiry 3 3
+expiry 3 3 3
 register 3
 A000001 0 A000002 2 50
 A000001 4 B000001 2 50
 A000001 1 B000001 1 25
-A000001 5 0
-A000002 2 0
-B000001 3 3
-C000001 0 3
+A000001 5 0 0
+A000002 2 0 0
+B000001 3 3 0
+C000001 0 3 0
 ";
     assert_eq!(printed(&worked().file()), rows);
+}
+
+#[test]
+fn a_removed_line_is_counted_and_not_printed() {
+    let end = "\
+17 0
+expiry 3 3 2
+register 2
+A000001 0 A000002 2 50
+D000001 1 B000001 1 25
+A000001 2 0 2
+A000002 2 0 0
+B000001 1 3 2
+C000001 0 3 0
+D000001 1 0 0
+";
+    let rows = printed(&shared().file());
+    assert!(rows.ends_with(end), "{rows}");
 }
 
 #[test]
@@ -92,10 +112,10 @@ margins 150 -150
 13 0
 margins 50 -50
 14 0
-expiry 0 0
+expiry 0 0 0
 register 0
-A000001 0 1
-A000002 0 1
+A000001 0 1 0
+A000002 0 1 0
 15 5
 16 26
 17 5
@@ -202,7 +222,7 @@ fn a_file_that_opens_no_book_prints_one_row() {
 fn no_event_prints_nothing_and_the_end_of_a_file_is_not_judged() {
     assert_eq!(printed(&file_of(&[])), "");
     assert_eq!(printed(&file_of(&[session(1)])), "0 0\nmargins\n");
-    let ended = "0 0\nmargins\n1 0\nexpiry 0 0\nregister 0\n";
+    let ended = "0 0\nmargins\n1 0\nexpiry 0 0 0\nregister 0\n";
     assert_eq!(printed(&file_of(&[session(1), Event::Expiry])), ended);
 }
 
@@ -213,17 +233,6 @@ fn first_refused(answers: &str) -> Option<&str> {
         let is_number = |field: &&str| field.bytes().all(|byte| byte.is_ascii_digit());
         fields.len() == 2 && fields.iter().all(is_number) && fields[1] != "0"
     })
-}
-
-/// A listing without the sums of margins, which end the rows of sections.
-fn without_margins(listing: &str) -> String {
-    let (rows, lines) = (listing.lines(), listing.lines().next().unwrap());
-    let lines: usize = lines.strip_prefix("register ").unwrap().parse().unwrap();
-    let row = |(i, row): (usize, &str)| match i <= lines {
-        true => format!("{row}\n"),
-        false => format!("{}\n", row.rsplit_once(' ').unwrap().0),
-    };
-    rows.enumerate().map(row).collect()
 }
 
 #[test]

@@ -3,9 +3,9 @@
 
 mod common;
 
-use common::{Lent, book_of, opened};
+use common::{Lent, all_kept, book_of, opened};
 use wheat_delivery::reading::book::{Book, Notice, Section, SessionKind};
-use wheat_delivery::reading::calls::{Counts, open};
+use wheat_delivery::reading::calls::open;
 use wheat_delivery::reading::refusal::Refusal;
 use wheat_delivery::trial::hand::code;
 
@@ -282,27 +282,28 @@ fn an_expiry_is_refused_in_the_order_5_22_23_24() {
 
 #[test]
 fn each_list_of_an_expiry_is_judged() {
-    let answer = |register, delivered, terminated| {
-        let mut lent = Lent::new(register, delivered, terminated);
+    let answer = |register, sections| {
+        let mut lent = Lent::new(register, sections);
         let mut book = two();
         let answer = book.expiry(lent.lend());
         assert!(answer.is_ok() || lent.is_untouched() && book == two());
         answer.map_err(Refusal::number)
     };
-    assert_eq!(answer([381, 382, 382, 382], 2, 2), Err(23));
-    assert_eq!(answer([382, 381, 382, 382], 2, 2), Err(23));
-    assert_eq!(answer([382, 382, 381, 382], 2, 2), Err(23));
-    assert_eq!(answer([382, 382, 382, 381], 1, 1), Err(23));
-    assert_eq!(answer([382; 4], 1, 2), Err(24));
-    assert_eq!(answer([382; 4], 2, 1), Err(24));
-    assert_eq!(answer([382; 4], 2, 2), Ok(Counts { pairs: 2, lines: 2 }));
+    assert_eq!(answer([381, 382, 382, 382], [2, 2, 2]), Err(23));
+    assert_eq!(answer([382, 381, 382, 382], [2, 2, 2]), Err(23));
+    assert_eq!(answer([382, 382, 381, 382], [2, 2, 2]), Err(23));
+    assert_eq!(answer([382, 382, 382, 381], [1, 1, 1]), Err(23));
+    assert_eq!(answer([382; 4], [1, 2, 2]), Err(24));
+    assert_eq!(answer([382; 4], [2, 1, 2]), Err(24));
+    assert_eq!(answer([382; 4], [2, 2, 1]), Err(24));
+    assert_eq!(answer([382; 4], [2, 2, 2]), Ok(all_kept(2, 2)));
 }
 
 #[test]
 fn an_expiry_changes_only_the_mark_and_leaves_entries_past_those_used() {
     let mut book = two();
-    let mut lent = Lent::new([400; 4], 5, 6);
-    assert_eq!(book.expiry(lent.lend()), Ok(Counts { pairs: 2, lines: 2 }));
+    let mut lent = Lent::new([400; 4], [5, 6, 4]);
+    assert_eq!(book.expiry(lent.lend()), Ok(all_kept(2, 2)));
     book.expired = false;
     assert_eq!(book, two());
     assert_eq!(lent.bytes[0][..3], [0, 0, 201]);
@@ -311,6 +312,7 @@ fn an_expiry_changes_only_the_mark_and_leaves_entries_past_those_used() {
     assert_eq!(lent.lots[..3], [3, 2, 204]);
     assert_eq!(lent.delivered, [5, 5, 205, 205, 205]);
     assert_eq!(lent.terminated, [0, 0, 206, 206, 206, 206]);
+    assert_eq!(lent.lapsed, [0, 0, 207, 207]);
 }
 
 #[test]

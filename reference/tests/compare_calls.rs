@@ -3,6 +3,7 @@
 
 mod common;
 
+use common::expiry_rows::{self, answered};
 use common::programs::{compared, folder};
 use std::path::{Path, PathBuf};
 use std::process::Output;
@@ -273,10 +274,31 @@ fn every_slip_in_the_calls_shows_in_some_file() {
     }
 }
 
+#[test]
+fn every_slip_in_what_is_removed_shows_in_some_file() {
+    let files: Vec<Vec<u8>> = seeds(1, 160).into_iter().map(file).collect();
+    let differs = |file: &Vec<u8>, slip| answered(file, slip) != printed(file);
+    assert!(!files.iter().any(|file| differs(file, expiry_rows::RIGHT)));
+    for (name, slip) in expiry_rows::SLIPS {
+        assert!(files.iter().any(|file| differs(file, slip)), "{name}");
+    }
+}
+
 type Misprint = fn(&str) -> String;
 
+/// The rows with the three counts of an expiry put otherwise.
+fn with_counts(rows: &str, put: fn(&str, &str, &str) -> [String; 3]) -> String {
+    let counts = |row: &str| {
+        let counts: Vec<&str> = row.strip_prefix("expiry ")?.split(' ').collect();
+        let counts = put(counts[0], counts[1], counts[2]).join(" ");
+        Some(format!("expiry {counts}\n"))
+    };
+    let row = |row: &str| counts(row).unwrap_or(format!("{row}\n"));
+    rows.lines().map(row).collect()
+}
+
 /// Slips in what is printed, given the rows that should be.
-const ROWS: [(&str, Misprint); 5] = [
+const ROWS: [(&str, Misprint); 8] = [
     ("no row without sections", |rows| {
         rows.replace("margins\n", "")
     }),
@@ -285,13 +307,26 @@ const ROWS: [(&str, Misprint); 5] = [
     }),
     ("no sign", |rows| rows.replace(" -", " ")),
     ("lines for pairs", |rows| {
-        let counts = |row: &str| {
-            let lines = row.strip_prefix("expiry ")?.split(' ').nth(1)?.to_string();
-            Some(format!("expiry {lines} {lines}\n"))
-        };
-        let lines = rows.lines();
-        let row = |row: &str| counts(row).unwrap_or(format!("{row}\n"));
-        lines.map(row).collect()
+        with_counts(rows, |_, lines, kept| {
+            [lines, lines, kept].map(str::to_string)
+        })
+    }),
+    ("lines kept for lines formed", |rows| {
+        with_counts(rows, |pairs, _, kept| {
+            [pairs, kept, kept].map(str::to_string)
+        })
+    }),
+    ("lines formed for lines kept", |rows| {
+        with_counts(rows, |pairs, lines, _| {
+            [pairs, lines, lines].map(str::to_string)
+        })
+    }),
+    ("lines removed for lines kept", |rows| {
+        with_counts(rows, |pairs, lines, kept| {
+            let number = |text: &str| text.parse::<usize>().unwrap();
+            let removed = number(lines) - number(kept);
+            [pairs.to_string(), lines.to_string(), removed.to_string()]
+        })
     }),
     ("the end of a file is judged", |rows| {
         match rows.contains("expiry") {
@@ -315,7 +350,7 @@ fn every_slip_in_the_rows_shows_in_some_file() {
 fn a_comparison_with_a_program_that_agrees_ends_well() {
     let output = compare(CALLS, "500", "7", &folder("calls-agrees"));
     let text = String::from_utf8(output.stdout).unwrap();
-    let agree = "520 of 520 files agree\nfiles 520, ";
+    let agree = "521 of 521 files agree\nfiles 521, ";
     assert!(text.starts_with(agree), "{text}");
     assert!(text.ends_with("everything was reached\n"), "{text}");
     assert!(output.status.success() && output.stderr.is_empty());
@@ -379,6 +414,13 @@ fn a_program_that_stops_reads_or_refuses_otherwise_is_found() {
     assert!(short.starts_with("the file of most rows, row "), "{short}");
     let count = first("calls-count", "CALLS | sed 's/ 15$/ 0/'");
     assert!(count.starts_with("seed 10, row "), "{count}");
+    let lines = first(
+        "calls-lines",
+        "CALLS | sed 's/^expiry \\(.*\\) [0-9]* \\([0-9]*\\)$/expiry \\1 \\2 \\2/'",
+    );
+    let both = "wanted is \"expiry 3 3 2\", the program has \"expiry 3 2 2\"; ";
+    assert!(lines.starts_with("shared.events, row 20: "), "{lines}");
+    assert!(lines.contains(both), "{lines}");
     let end = first("calls-end", "printf %s \"$(CALLS)\"");
     assert!(end.starts_with("no byte, row 2: "), "{end}");
 }

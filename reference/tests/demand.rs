@@ -2,7 +2,7 @@
 
 mod common;
 
-use common::entry;
+use common::{all_kept, entry};
 use std::collections::BTreeSet;
 use wheat_delivery::reading::file::event::Event;
 use wheat_delivery::reading::file::{self, Reader, whole};
@@ -10,11 +10,14 @@ use wheat_delivery::reading::listing::Lists;
 use wheat_delivery::reading::refusal::Refusal;
 use wheat_delivery::reading::value::{factor, value};
 use wheat_delivery::trial::demand::block::Block;
-use wheat_delivery::trial::demand::{Call, Ending, Expiry, History, Outcome, Single, run};
-use wheat_delivery::trial::generate::lists::{self, FULL, singly, with_blocks};
+use wheat_delivery::trial::demand::{
+    Call, Ending, Entry, Expiry, History, Lengths, Outcome, Single, run,
+};
+use wheat_delivery::trial::examples::shared;
+use wheat_delivery::trial::generate::lists::{self, singly, with_blocks};
 use wheat_delivery::trial::generate::unruly::unruly;
 use wheat_delivery::trial::generate::{self, Contract};
-use wheat_delivery::trial::hand::{trade, worked};
+use wheat_delivery::trial::hand::{Case, section, trade, worked};
 
 fn ending(contract: Contract, calls: &[Call]) -> Option<Ending> {
     let Contract { lot, w, r } = contract;
@@ -32,15 +35,15 @@ fn history(seed: u64) -> Option<History> {
 fn full(events: &[Event]) -> Vec<Call> {
     let single = |&event: &Event| Single {
         event,
-        lengths: FULL,
+        lengths: Lengths::FULL,
     };
     singly(&events.iter().map(single).collect::<Vec<_>>())
 }
 
-/// The history of the fifteen events checked by hand.
-fn hand_history() -> History {
-    let calls = full(&worked().events);
-    ending(worked().contract, &calls).unwrap().history
+/// The history of the events of a case.
+fn history_of(case: &Case) -> History {
+    let calls = full(&case.events);
+    ending(case.contract, &calls).unwrap().history
 }
 
 #[test]
@@ -63,6 +66,29 @@ fn demand_3_holds_over_generated_lists_with_refused_calls_among_them() {
     assert!(expiries > 800, "{expiries} lists with an expiry");
     let every: BTreeSet<u8> = (5..=24).collect();
     assert_eq!(refused, every, "every number a call of a list can answer");
+}
+
+/// Lists in which an expiry is lent a lapsed list that is short, and no other.
+#[test]
+fn a_lapsed_list_alone_is_short_in_some_lists() {
+    let mut short = 0;
+    for seed in 0..1_600 {
+        let Some((contract, calls)) = lists::calls(seed, &generate::file(seed)) else {
+            continue;
+        };
+        let Some(Ending { history, book }) = ending(contract, &singly(&calls)) else {
+            continue;
+        };
+        let lapsed_alone = |lengths: &Lengths| {
+            let others = lengths.delivered.min(lengths.terminated);
+            (lengths.lapsed + 1..=others).contains(&book.sections_held)
+        };
+        let refused = history.steps.iter().zip(&calls).filter(|(step, call)| {
+            step.answer == Err(Refusal::SectionListShort) && lapsed_alone(&call.lengths)
+        });
+        short += refused.count();
+    }
+    assert!(short > 10, "{short} lists");
 }
 
 #[test]
@@ -139,20 +165,32 @@ fn a_refused_opening_starts_no_list() {
     assert_eq!(run(0, 1, 1, &[]), Ok(None));
 }
 
-/// What demand 3 says of the hand case after a change to its history.
-fn breach(change: impl Fn(&mut History)) -> String {
-    let mut history = hand_history();
+/// What demand 3 says of a case after a change to its history.
+fn breach_of(case: &Case, change: impl Fn(&mut History)) -> String {
+    let mut history = history_of(case);
     assert_eq!(history.demand_three(), Ok(()));
     change(&mut history);
     history.demand_three().expect_err("a breach")
 }
 
-/// What the expiry of the hand case handed out.
+/// The same of the fifteen events checked by hand.
+fn breach(change: impl Fn(&mut History)) -> String {
+    breach_of(&worked(), change)
+}
+
+/// What the expiry that ends a case handed out.
 fn expiry(history: &mut History) -> &mut Expiry {
-    match &mut history.steps[14].answer {
-        Ok(Outcome::Expiry(expiry)) => expiry,
+    match history.steps.last_mut().map(|step| &mut step.answer) {
+        Some(Ok(Outcome::Expiry(expiry))) => expiry,
         other => panic!("no expiry: {other:?}"),
     }
+}
+
+/// Changes the lines formed and, where all are kept, the register with them.
+fn change_lines(history: &mut History, change: impl Fn(&mut Vec<Entry>)) {
+    let expiry = expiry(history);
+    change(&mut expiry.formed);
+    change(&mut expiry.register);
 }
 
 fn margins(history: &mut History) -> &mut Vec<i64> {
@@ -202,25 +240,93 @@ fn a_register_unlike_the_delivered_lots_breaks_demand_3() {
 }
 
 #[test]
-fn a_line_count_unlike_the_register_breaks_demand_3() {
-    assert!(breach(|h| expiry(h).counts.lines += 1).contains("counts the lines"));
+fn a_line_count_unlike_the_lines_breaks_demand_3() {
+    let formed = "counts 4 lines and 3 kept where there are (3, 3)";
+    assert!(breach(|h| expiry(h).counts.lines += 1).contains(formed));
+    let kept = "counts 3 lines and 2 kept where there are (3, 3)";
+    assert!(breach(|h| expiry(h).counts.kept -= 1).contains(kept));
 }
 
 #[test]
 fn a_notice_drawn_beyond_its_lots_breaks_demand_3() {
-    assert!(breach(|h| expiry(h).register[2].elevator = 4).contains("drawn of 2"));
-    assert!(breach(|h| expiry(h).register[2].elevator = 9).contains("drawn of 0"));
+    let at = |elevator: u8| breach(|h| change_lines(h, |lines| lines[2].elevator = elevator));
+    assert!(at(4).contains("drawn of 2"));
+    assert!(at(9).contains("drawn of 0"));
 }
 
 #[test]
 fn more_lines_than_sections_and_notices_allow_break_demand_3() {
     let told = breach(|h| {
-        let expiry = expiry(h);
-        expiry.register[0].lots = 1;
-        expiry.register.push(entry(0, 0, 1, 1));
-        expiry.counts.lines += 1;
+        change_lines(h, |lines| {
+            lines[0].lots = 1;
+            lines.push(entry(0, 0, 1, 1));
+        });
+        expiry(h).counts = all_kept(3, 4);
     });
-    assert!(told.contains("4 lines, 1 long sections delivering, 3 notices drawn"));
+    assert!(told.contains("4 lines, 1 long sections in them, 3 notices drawn"));
+}
+
+/// Of the three lines of the shared example the second is removed, of 2 lots that
+/// section 0 buys of section 2.
+#[test]
+fn a_removed_line_is_in_the_history_and_not_in_the_register() {
+    let mut history = history_of(&shared());
+    let Expiry {
+        counts,
+        formed,
+        register,
+        lapsed,
+        ..
+    } = expiry(&mut history);
+    let lines = [entry(0, 0, 1, 2), entry(0, 4, 2, 2), entry(4, 1, 2, 1)];
+    assert_eq!(formed[..], lines);
+    assert_eq!(register[..], [lines[0], lines[2]]);
+    assert_eq!(lapsed[..], [2, 0, 2, 0, 0]);
+    assert_eq!((counts.lines, counts.kept), (3, 2));
+}
+
+#[test]
+fn removed_lots_in_another_list_break_demand_3() {
+    let delivered = breach_of(&shared(), |h| {
+        let expiry = expiry(h);
+        for section in [0, 2] {
+            expiry.delivered[section] += std::mem::take(&mut expiry.lapsed[section]);
+        }
+    });
+    assert!(delivered.contains("section 0: 2 lots in the register, 4 in its list"));
+    let buyer_alone = breach_of(&shared(), |h| expiry(h).lapsed[2] = 0);
+    assert!(buyer_alone.contains("section 2: [1, 3, 0] delivered, terminated and lapsed of -6"));
+    let terminated = breach_of(&shared(), |h| {
+        let expiry = expiry(h);
+        expiry.terminated[2] += std::mem::take(&mut expiry.lapsed[2]);
+    });
+    assert!(terminated.contains("section 2: 2 lots in removed lines, 0 in its list"));
+}
+
+#[test]
+fn a_register_unlike_the_lines_kept_breaks_demand_3() {
+    let never = breach_of(&shared(), |h| expiry(h).register = expiry(h).formed.clone());
+    assert!(never.contains("section 0: 4 lots in the register, 2 in its list"));
+    let turned = breach_of(&shared(), |h| expiry(h).register.reverse());
+    assert_eq!(turned, "the register is not the lines kept");
+}
+
+/// Where D000001 is the same person too, two of the three lines are removed. Of
+/// the long sections and the notices drawn those of the line kept alone would make
+/// a limit of 1; with the others it is 4.
+#[test]
+fn the_line_limit_takes_in_what_removed_lines_bring() {
+    let mut case = shared();
+    case.events[4] = section(4, false, "D000001", 1);
+    let mut history = history_of(&case);
+    assert_eq!(history.demand_three(), Ok(()));
+    assert_eq!(expiry(&mut history).register, [entry(0, 0, 1, 2)]);
+    assert_eq!(expiry(&mut history).counts.lines, 3);
+    let told = breach_of(&case, |h| {
+        expiry(h).formed.extend([entry(4, 1, 2, 0); 2]);
+        expiry(h).counts.lines += 2;
+    });
+    assert_eq!(told, "5 lines, 2 long sections in them, 3 notices drawn");
 }
 
 #[test]

@@ -2,7 +2,7 @@
 
 mod common;
 
-use common::{book_of, expire};
+use common::{all_kept, book_of, expire};
 use wheat_delivery::reading::calls::Counts;
 use wheat_delivery::reading::expiry::settle;
 
@@ -258,7 +258,7 @@ fn stage_two_chooses_again_among_all_pairs_after_each_line() {
         expired.register,
         [(0, 6, 2, 3), (1, 6, 3, 3), (0, 6, 4, 2), (1, 6, 4, 1)],
     );
-    assert_eq!(expired.counts, Counts { pairs: 2, lines: 4 });
+    assert_eq!(expired.counts, all_kept(2, 4));
 }
 
 #[test]
@@ -283,13 +283,5 @@ fn a_buyer_and_an_elevator_that_meet_inside_and_outside_are_two_pairs() {
         ],
         &[],
     );
-    assert_eq!(expire(&book).unwrap().counts, Counts { pairs: 2, lines: 2 });
-}
-
-#[test]
-fn the_participant_has_no_effect() {
-    let mut book = book_of(&[(1, "A000001", 2, true), (2, "A000002", -2, true)], &[]);
-    let expired = expire(&book).unwrap();
-    book.sections[0].participant = u32::MAX;
-    assert_eq!(expire(&book).unwrap(), expired);
+    assert_eq!(expire(&book).unwrap().counts, all_kept(2, 2));
 }

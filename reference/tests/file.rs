@@ -256,7 +256,8 @@ fn a_refused_file_prints_its_number_and_place() {
 }
 
 /// Lists of these lengths for a read of the hand file.
-fn lists(register: usize, delivered: usize, terminated: usize, margin_sums: usize) -> Lists {
+fn lists(register: usize, sections: [usize; 3], margin_sums: usize) -> Lists {
+    let [delivered, terminated, lapsed] = sections;
     Lists {
         buyers: vec![81; register],
         elevators: vec![82; register],
@@ -264,15 +265,15 @@ fn lists(register: usize, delivered: usize, terminated: usize, margin_sums: usiz
         lots: vec![84; register],
         delivered: vec![85; delivered],
         terminated: vec![86; terminated],
+        lapsed: vec![88; lapsed],
         margin_sums: vec![87; margin_sums],
     }
 }
 
 #[test]
 fn a_read_judges_its_lists_at_the_expiry() {
-    let answer = |file: &[u8], lengths: [usize; 4]| {
-        let [register, delivered, terminated, sums] = lengths;
-        let mut lent = lists(register, delivered, terminated, sums);
+    let answer = |file: &[u8], register: usize, sections: [usize; 3], sums: usize| {
+        let mut lent = lists(register, sections, sums);
         let before = lent.clone();
         let reading = read(file, lent.lend());
         let refusal = reading.answer.unwrap_err();
@@ -280,27 +281,29 @@ fn a_read_judges_its_lists_at_the_expiry() {
         (refusal.number(), reading.place)
     };
     let file = hand_file();
-    assert_eq!(answer(&file, [381, 0, 0, 0]), (23, 14));
-    assert_eq!(answer(&file, [382, 3, 4, 4]), (24, 14));
-    assert_eq!(answer(&file, [382, 4, 3, 4]), (24, 14));
-    assert_eq!(answer(&file, [382, 4, 4, 3]), (24, 14));
+    assert_eq!(answer(&file, 381, [0, 0, 0], 0), (23, 14));
+    assert_eq!(answer(&file, 382, [3, 4, 4], 4), (24, 14));
+    assert_eq!(answer(&file, 382, [4, 3, 4], 4), (24, 14));
+    assert_eq!(answer(&file, 382, [4, 4, 3], 4), (24, 14));
+    assert_eq!(answer(&file, 382, [4, 4, 4], 3), (24, 14));
     let evening = file_of(&[session(1), session(1), Event::Expiry]);
-    assert_eq!(answer(&evening, [0, 0, 0, 0]), (22, 2));
+    assert_eq!(answer(&evening, 0, [0, 0, 0], 0), (22, 2));
     let ended = file_of(&worked().events[..14]);
-    assert_eq!(answer(&ended, [0, 0, 0, 0]), (27, 14));
+    assert_eq!(answer(&ended, 0, [0, 0, 0], 0), (27, 14));
 }
 
 #[test]
 fn an_accepted_read_hands_out_the_expired_book_the_counts_and_the_lists() {
     let file = hand_file();
-    let mut lent = lists(382, 5, 4, 6);
+    let mut lent = lists(382, [5, 4, 7], 6);
     let Reading {
         answer,
         place,
         book,
     } = read(&file, lent.lend());
     let counts = answer.unwrap();
-    assert_eq!((counts.pairs, counts.lines, place), (3, 3, 15));
+    assert_eq!((counts.pairs, counts.lines, counts.kept), (3, 3, 3));
+    assert_eq!(place, 15);
     assert!(book.expired && book.is_good());
     assert_eq!(lent.buyers[..4], [0, 0, 0, 81]);
     assert_eq!(lent.elevators[..4], [0, 4, 1, 82]);
@@ -308,6 +311,7 @@ fn an_accepted_read_hands_out_the_expired_book_the_counts_and_the_lists() {
     assert_eq!(lent.lots[..4], [2, 2, 1, 84]);
     assert_eq!(lent.delivered, [5, 2, 3, 0, 85]);
     assert_eq!(lent.terminated, [0, 0, 3, 3]);
+    assert_eq!(lent.lapsed, [0, 0, 0, 0, 88, 88, 88]);
     assert_eq!(
         lent.margin_sums,
         [2_500_000, -1_000_000, -2_250_000, 750_000, 87, 87]
@@ -318,7 +322,7 @@ fn an_accepted_read_hands_out_the_expired_book_the_counts_and_the_lists() {
 fn a_read_refused_after_its_expiry_writes_nothing() {
     let mut events = worked().events;
     events.push(Event::Expiry);
-    let mut lent = lists(382, 4, 4, 4);
+    let mut lent = lists(382, [4, 4, 4], 4);
     let before = lent.clone();
     let reading = read(&file_of(&events), lent.lend());
     assert_eq!((reading.answer, reading.place), (Err(Refusal::Expired), 15));
@@ -332,7 +336,7 @@ fn margins_before_a_section_was_opened_count_as_none() {
     events.insert(9, section(9, false, "D000001", 0));
     events.insert(10, session(1_520_000));
     let text = listing(&file_of(&events));
-    assert_eq!(text, format!("{}D000001 0 0 0\n", worked().prints));
+    assert_eq!(text, format!("{}D000001 0 0 0 0\n", worked().prints));
 }
 
 #[test]

@@ -36,7 +36,7 @@ fn the_first_files_have_the_bytes_they_always_had() {
     );
 }
 
-const DIGEST: u64 = 14_297_501_949_340_494_985;
+const DIGEST: u64 = 867_019_560_117_780_685;
 
 #[test]
 fn neighbouring_seeds_give_different_files() {
@@ -85,6 +85,10 @@ fn the_generator_reaches_every_refusal_of_a_file_and_every_turn_of_expiry() {
         reach.add(kind(seed), &file(seed));
     }
     assert_eq!(reach.missing(), [""; 0], "{reach}");
+    let removed = reach.turns["removed: a line"];
+    assert!(2 * removed > reach.accepted, "{reach}");
+    let kept = reach.turns["removed: none of several lines"];
+    assert!(4 * kept > reach.accepted, "{reach}");
 }
 
 #[test]
@@ -121,7 +125,7 @@ fn a_trading_file_is_accepted_throughout() {
 #[test]
 fn the_examples_are_the_files_of_their_folder_and_print_what_is_said_of_them() {
     let folder = concat!(env!("CARGO_MANIFEST_DIR"), "/../examples/");
-    let first = ["register 3", "refused 20 14", "register 375"];
+    let first = ["register 3", "refused 20 14", "register 2", "register 375"];
     for ((name, bytes), first) in examples().into_iter().zip(first) {
         assert_eq!(listing(&bytes).lines().next(), Some(first));
         let kept = std::fs::read(format!("{folder}{name}")).unwrap();

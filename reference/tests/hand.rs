@@ -2,8 +2,8 @@
 
 mod common;
 
-use common::{book_of, expire, opened};
-use wheat_delivery::reading::calls::{Counts, open};
+use common::{all_kept, book_of, expire, opened, without_lapsed};
+use wheat_delivery::reading::calls::open;
 use wheat_delivery::reading::expiry::passes::stage_one;
 use wheat_delivery::reading::expiry::{Buyer, Offer, settle};
 use wheat_delivery::reading::listing::listing;
@@ -62,7 +62,7 @@ fn step_2_takes_two_of_four_and_the_rest_is_one_inside_one_outside() {
     let expired = expire(&book).unwrap();
     assert_eq!(expired.delivered, [0, 0, 1, 2, 1]);
     assert_eq!(expired.register, [(2, 0, 3, 1), (4, 0, 3, 1)]);
-    assert_eq!(expired.counts, Counts { pairs: 2, lines: 2 });
+    assert_eq!(expired.counts, all_kept(2, 2));
 }
 
 #[test]
@@ -119,7 +119,7 @@ fn stage_one_pairs_five_at_the_first_three_at_the_second_one_at_the_first() {
         .map(|p| (p.buyer, p.elevator, p.lots))
         .collect();
     assert_eq!(formed, [(0, 8, 5), (1, 9, 3), (1, 8, 1)]);
-    assert_eq!(expire(&book).unwrap().counts, Counts { pairs: 3, lines: 3 });
+    assert_eq!(expire(&book).unwrap().counts, all_kept(3, 3));
 }
 
 #[test]
@@ -128,6 +128,31 @@ fn the_fifteen_events_print_their_listing() {
     let file = worked().file();
     assert_eq!(file.len(), 271);
     assert_eq!(listing(&file), worked().prints);
+}
+
+/// The listing as document 01 has it.
+const LISTING: &str = "\
+register 3
+A000001 0 A000002 2 50
+A000001 4 B000001 2 50
+A000001 1 B000001 1 25
+A000001 5 0 2500000
+A000002 2 0 -1000000
+B000001 3 3 -2250000
+C000001 0 3 750000
+";
+
+/// "Document 01's listing gains a column of noughts" (document 02, a).
+#[test]
+fn the_listing_of_document_01_gains_a_column_of_noughts() {
+    let listing = listing(&worked().file());
+    assert_eq!(without_lapsed(&listing), LISTING);
+    let lapsed: Vec<&str> = listing
+        .lines()
+        .skip(4)
+        .filter_map(|row| row.split(' ').nth(3))
+        .collect();
+    assert_eq!(lapsed, ["0"; 4]);
 }
 
 #[test]

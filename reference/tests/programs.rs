@@ -2,7 +2,8 @@
 
 mod common;
 
-use common::programs::{compared, folder, given};
+use common::expiry_rows::{RIGHT, SLIPS, listed};
+use common::programs::{compared, difference, folder, given};
 use std::path::Path;
 use std::process::{Command, Output};
 use wheat_delivery::reading::listing::listing;
@@ -11,6 +12,7 @@ use wheat_delivery::trial::generate;
 use wheat_delivery::trial::hand::worked;
 
 const LISTING: &str = env!("CARGO_BIN_EXE_listing");
+const CALLS: &str = env!("CARGO_BIN_EXE_calls");
 const COMPARE: &str = env!("CARGO_BIN_EXE_compare");
 const CASES: &str = env!("CARGO_BIN_EXE_cases");
 const TENTHS: &str = env!("CARGO_BIN_EXE_tenths");
@@ -79,6 +81,58 @@ fn a_comparison_with_a_program_that_differs_keeps_the_first_file_and_fails() {
         listed.as_bytes()
     );
     assert_eq!(std::fs::read_dir(&folder).unwrap().count(), 3);
+}
+
+#[test]
+fn every_slip_in_what_is_removed_shows_in_several_files() {
+    let files: Vec<Vec<u8>> = (1..=160).map(generate::file).collect();
+    let differing = |slip| {
+        let differs = |file: &&Vec<u8>| listed(file, slip) != listing(file);
+        files.iter().filter(differs).count()
+    };
+    assert_eq!(differing(RIGHT), 0);
+    for (name, slip) in SLIPS {
+        assert!(differing(slip) >= 3, "{name}: {}", differing(slip));
+    }
+}
+
+/// What the comparison says of the first file that a script lists otherwise.
+#[cfg(unix)]
+fn first_listed_otherwise(name: &str, script: &str) -> String {
+    let script = script.replace("LISTING", LISTING).replace("CALLS", CALLS);
+    let text = difference(COMPARE, name, &script);
+    let found = text.split("first that does not: ").nth(1);
+    found.unwrap_or("none").to_string()
+}
+
+#[cfg(unix)]
+#[test]
+fn programs_that_forget_what_was_removed_are_found() {
+    // The rows of sections stand after the lines, which the first row counts.
+    let sections = |change: &str| {
+        format!("LISTING | awk 'NR == 1 {{ n = $2 }} NR > n + 1 {{ {change} }} {{ print }}'")
+    };
+    let delivered = first_listed_otherwise("stay-delivered", &sections("$2 += $4"));
+    let both = "wanted is \"HG6AQCC 2248 0 1395 294053\", \
+        the program has \"HG6AQCC 3643 0 1395 294053\"; ";
+    assert!(
+        delivered.starts_with("seed 4 (Medium), row 36: "),
+        "{delivered}"
+    );
+    assert!(delivered.contains(both), "{delivered}");
+    let change = "$0 = $1 \" \" $2 \" \" $3 \" \" $5";
+    let no_column = first_listed_otherwise("no-column", &sections(change));
+    assert!(
+        no_column.starts_with("seed 1 (Medium), row 70: "),
+        "{no_column}"
+    );
+    let formed = r#"
+cat > "$0.file"
+formed=$(CALLS < "$0.file" | sed -n 's/^expiry [0-9]* \([0-9]*\) .*/\1/p')
+LISTING < "$0.file" | sed "1s/^register .*/register $formed/""#;
+    let formed = first_listed_otherwise("counts-formed", formed);
+    let both = "row 1: wanted is \"register 26\", the program has \"register 28\"; ";
+    assert!(formed.contains(both), "{formed}");
 }
 
 #[test]

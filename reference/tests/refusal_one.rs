@@ -24,8 +24,8 @@ fn good() -> Book {
 fn every_call_refuses_1(book: &Book) -> bool {
     let mut given = book.clone();
     let mut margins = [77; 0];
-    let mut lent = Lent::new([0; 4], 0, 0);
-    let mut full = Lent::new([382; 4], 128, 128);
+    let mut lent = Lent::new([0; 4], [0; 3]);
+    let mut full = Lent::new([382; 4], [128; 3]);
     let mut full_margins = [77; 128];
     let mut block_answers = [77; 2];
     let block = Trades {

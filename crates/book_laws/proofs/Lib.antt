@@ -3,6 +3,7 @@ pub mod Answers
 pub mod Blank
 pub mod Blocks
 pub mod Effects
+pub mod ExpiryLists
 pub mod Good
 pub mod Held
 pub mod Kept

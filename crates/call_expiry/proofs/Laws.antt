@@ -21,8 +21,8 @@ some-last test x = go (test x)
     go false = refl
 
 pub expiry-number : (b : Book) (ls : Lists) → good b ≡ true
-    → first (expiryRefusals b ls) ≡ byTests (b .expired) (not (dayLast (b .last)) || not (eqb (b .trades) 0)) (shorter 382 (ls .buyers) || (shorter 382 (ls .elevators) || (shorter 382 (ls .sellers) || shorter 382 (ls .lots)))) (shorter (b .held) (ls .delivered) || shorter (b .held) (ls .terminated))
+    → first (expiryRefusals b ls) ≡ byTests (b .expired) (not (dayLast (b .last)) || not (eqb (b .trades) 0)) (shorter 382 (ls .buyers) || (shorter 382 (ls .elevators) || (shorter 382 (ls .sellers) || shorter 382 (ls .lots)))) (shorter (b .held) (ls .delivered) || (shorter (b .held) (ls .terminated) || shorter (b .held) (ls .lapsed)))
 unfolding expiryRefusals some
 expiry-number b ls e =
     simp (says, says-none, e)
-    (ap₂ (λ (lots terminated : Bool). byTests (b .expired) (not (dayLast (b .last)) || not (eqb (b .trades) 0)) (shorter 382 (ls .buyers) || (shorter 382 (ls .elevators) || (shorter 382 (ls .sellers) || lots))) (shorter (b .held) (ls .delivered) || terminated)) (some-last (shorter 382) (ls .lots)) (some-last (shorter (b .held)) (ls .terminated)))
+    (ap₂ (λ (lots lapsed : Bool). byTests (b .expired) (not (dayLast (b .last)) || not (eqb (b .trades) 0)) (shorter 382 (ls .buyers) || (shorter 382 (ls .elevators) || (shorter 382 (ls .sellers) || lots))) (shorter (b .held) (ls .delivered) || (shorter (b .held) (ls .terminated) || lapsed))) (some-last (shorter 382) (ls .lots)) (some-last (shorter (b .held)) (ls .lapsed)))

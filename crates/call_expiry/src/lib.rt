@@ -34,6 +34,13 @@ fn register_short(buyers: usize, elevators: usize, sellers: usize, lots: usize) 
     (buyers < places) | ((elevators < places) | ((sellers < places) | (lots < places)))
 }
 
+// Whether some section list has fewer entries than the sections held (01, Expiry call, 1; 02, a, 4).
+fn sections_short(held: usize, delivered: usize, terminated: usize, lapsed: usize) -> bool
+    ensures { λ r. ⌜ r ≡ (ltb delivered held || (ltb terminated held || ltb lapsed held)) ⌝ }
+{
+    (delivered < held) | ((terminated < held) | (lapsed < held))
+}
+
 // The number of an expiry on a good book (01, Expiry call, 1).
 pub fn refusal(
     b: Book,
@@ -43,9 +50,10 @@ pub fn refusal(
     lots: &[u32],
     delivered: &[u32],
     terminated: &[u32],
+    lapsed: &[u32],
 ) -> u8
     requires { ⌜ good b ≡ true ⌝ }
-    ensures { λ n. ⌜ n ≡ first (Call.expiryRefusals b (lists (now (buyers .entry)) (now (elevators .entry)) (now (sellers .entry)) (now (lots .entry)) (now (delivered .entry)) (now (terminated .entry)))) ⌝ }
+    ensures { λ n. ⌜ n ≡ first (Call.expiryRefusals b (lists (now (buyers .entry)) (now (elevators .entry)) (now (sellers .entry)) (now (lots .entry)) (now (delivered .entry)) (now (terminated .entry)) (now (lapsed .entry)))) ⌝ }
 {
     if b.expired {
         return EXPIRED;
@@ -56,7 +64,7 @@ pub fn refusal(
     }
     let held = b.held;
     let register = register_short(buyers.len(), elevators.len(), sellers.len(), lots.len());
-    let sections = (delivered.len() < held) | (terminated.len() < held);
+    let sections = sections_short(held, delivered.len(), terminated.len(), lapsed.len());
     if register {
         return REGISTER_SHORT;
     }
@@ -75,8 +83,21 @@ pub fn expired(b: Book) -> Book
     next
 }
 
-// An expiry: the register, what is delivered and terminated, and the book that has expired; or a refusal with the book and all lists as they were
-// (01, Expiry call, 1 and 2 and 3; 01, Expiry, 7; 01, Forms, 2; 01, Book, 5 and 6 and 7; 01, Bound, a).
+// A refused expiry: no counts, and the same book (01, Book, 7).
+fn refused(number: u8, b: Book) -> ExpiryAnswer
+    ensures { λ a. ⌜ a ≡ record { number = number; pairs = 0; lines = 0; kept = 0; book = b } ⌝ }
+{
+    ExpiryAnswer {
+        number,
+        pairs: 0,
+        lines: 0,
+        kept: 0,
+        book: b,
+    }
+}
+
+// An expiry: the register, what is delivered, terminated and lapsed, and the book that has expired; or a refusal with the book and all lists as they were
+// (01, Expiry call, 1 and 2 and 3; 01, Expiry, 7; 02, a, 4 and 6; 01, Forms, 2; 01, Book, 5 and 6 and 7; 01, Bound, a).
 pub fn expiry(
     b: Book,
     buyers: &mut [u8],
@@ -85,26 +106,26 @@ pub fn expiry(
     lots: &mut [u32],
     delivered: &mut [u32],
     terminated: &mut [u32],
+    lapsed: &mut [u32],
 ) -> ExpiryAnswer
-    ensures { λ a. ⌜ a ≡ Call.expiryAnswer b (lists (now (buyers .entry)) (now (elevators .entry)) (now (sellers .entry)) (now (lots .entry)) (now (delivered .entry)) (now (terminated .entry))) ⌝ }
-    ensures { λ _. ⌜ lists (now (buyers .exit)) (now (elevators .exit)) (now (sellers .exit)) (now (lots .exit)) (now (delivered .exit)) (now (terminated .exit)) ≡ Call.expiryLists b (lists (now (buyers .entry)) (now (elevators .entry)) (now (sellers .entry)) (now (lots .entry)) (now (delivered .entry)) (now (terminated .entry))) ⌝ }
+    ensures { λ a. ⌜ a ≡ Call.expiryAnswer b (lists (now (buyers .entry)) (now (elevators .entry)) (now (sellers .entry)) (now (lots .entry)) (now (delivered .entry)) (now (terminated .entry)) (now (lapsed .entry))) ⌝ }
+    ensures { λ _. ⌜ lists (now (buyers .exit)) (now (elevators .exit)) (now (sellers .exit)) (now (lots .exit)) (now (delivered .exit)) (now (terminated .exit)) (now (lapsed .exit)) ≡ Call.expiryLists b (lists (now (buyers .entry)) (now (elevators .entry)) (now (sellers .entry)) (now (lots .entry)) (now (delivered .entry)) (now (terminated .entry)) (now (lapsed .entry))) ⌝ }
 {
     if !judge::good(b) {
-        return ExpiryAnswer {
-            number: BAD_BOOK,
-            pairs: 0,
-            lines: 0,
-            book: b,
-        };
+        return refused(BAD_BOOK, b);
     }
-    let number = refusal(b, buyers, elevators, sellers, lots, delivered, terminated);
+    let number = refusal(
+        b,
+        buyers,
+        elevators,
+        sellers,
+        lots,
+        delivered,
+        terminated,
+        lapsed,
+    );
     if number != ACCEPTED {
-        return ExpiryAnswer {
-            number,
-            pairs: 0,
-            lines: 0,
-            book: b,
-        };
+        return refused(number, b);
     }
     let counts = method_delivery::deliver(
         b,
@@ -114,12 +135,14 @@ pub fn expiry(
         lots,
         delivered,
         terminated,
+        lapsed,
     );
     let book = expired(b);
     ExpiryAnswer {
         number,
         pairs: counts.pairs,
         lines: counts.lines,
+        kept: counts.kept,
         book,
     }
 }

@@ -20,16 +20,17 @@ wholeAt zs i = field (signedDecimal (entryℤ zs i)) (endAt (i + 1) (length zs))
 abbrev pub wholes : List ℤ → List ℕ
 wholes zs = flatMap (wholeAt zs) (counted 0 (length zs))
 
--- how many pairs and lines an expiry has (01, Expiry, 7)
-abbrev pub countsRow : ℕ → ℕ → List ℕ
-countsRow pairs lines = row (bytes "expiry" ∷ decimal pairs ∷ decimal lines ∷ [])
+-- how many pairs and lines an expiry has formed, and how many lines are kept (01, Expiry, 7; 02, a, 6)
+abbrev pub countsRow : ℕ → ℕ → ℕ → List ℕ
+countsRow pairs lines kept = row (bytes "expiry" ∷ decimal pairs ∷ decimal lines ∷ decimal kept ∷ [])
 
--- the rows of the lots of the sections held, by number (01, Program, 1)
-abbrev pub lotsRows : List ℕ → List ℕ → List ℕ → ℕ → List ℕ
-lotsRows codes delivered terminated held = flatMap (λ (i : ℕ). lotsFields codes i (entry delivered i) (entry terminated i) 10) (counted 0 held)
+-- the rows of the lots of the sections held, by number (01, Program, 1; 02, a, 4)
+abbrev pub lotsRows : List ℕ → List ℕ → List ℕ → List ℕ → ℕ → List ℕ
+lotsRows codes delivered terminated lapsed held =
+    flatMap (λ (i : ℕ). lotsFields codes i (entry delivered i) (entry terminated i) (entry lapsed i) 10) (counted 0 held)
 
--- what an expiry prints, its counts and lists by name
-abbrev pub delivery : Book → ℕ → ℕ → List ℕ → List ℕ → List ℕ → List ℕ → List ℕ → List ℕ → List ℕ
-delivery b pairs lines buyers elevators sellers lots delivered terminated =
-    deliveryRows (record { number = 0; pairs = pairs; lines = lines; book = b })
-    (record { buyers = buyers; elevators = elevators; sellers = sellers; lots = lots; delivered = delivered; terminated = terminated })
+-- what an expiry prints, its counts and lists by name (01, Expiry, 7; 01, Program, 1; 02, a, 4 and 6)
+abbrev pub delivery : Book → ℕ → ℕ → ℕ → List ℕ → List ℕ → List ℕ → List ℕ → List ℕ → List ℕ → List ℕ → List ℕ
+delivery b pairs lines kept buyers elevators sellers lots delivered terminated lapsed =
+    deliveryRows (record { number = 0; pairs = pairs; lines = lines; kept = kept; book = b })
+    (record { buyers = buyers; elevators = elevators; sellers = sellers; lots = lots; delivered = delivered; terminated = terminated; lapsed = lapsed })

@@ -46,51 +46,47 @@ pub fn margins(margins: &[i64], out: &mut [u8], at: usize) -> usize
     fields::wholes(margins, out, at)
 }
 
-// How many pairs and lines an expiry has (01, Expiry, 7).
-fn counts(pairs: usize, lines: usize, out: &mut [u8], at: usize) -> usize
-    requires { ⌜ at + length (countsRow pairs lines) ≤ length (now out) ⌝ }
-    ensures { λ r. ⌜ Laid (now (out .entry)) at (countsRow pairs lines) (now (out .exit)) r ⌝ }
+// How many pairs and lines an expiry has formed, and how many lines are kept (01, Expiry, 7; 02, a, 6).
+fn counts(pairs: usize, lines: usize, kept: usize, out: &mut [u8], at: usize) -> usize
+    requires { ⌜ at + length (countsRow pairs lines kept) ≤ length (now out) ⌝ }
+    ensures { λ r. ⌜ Laid (now (out .entry)) at (countsRow pairs lines kept) (now (out .exit)) r ⌝ }
 {
-    text::row_of_two(b"expiry", pairs as u64, lines as u64, out, at)
+    let at = text::word(b"expiry", SPACE, out, at);
+    let at = text::number(pairs as u64, SPACE, out, at);
+    let at = text::number(lines as u64, SPACE, out, at);
+    text::number(kept as u64, LINE_END, out, at)
 }
 
-// An expiry: how many pairs and lines, the lines, and each section's lots (01, Expiry, 7; 01, Program, 1).
+// An expiry: how many pairs and lines were formed, how many lines are kept, these lines, and each section's lots
+// (01, Expiry, 7; 01, Program, 1; 02, a, 4 and 6).
 pub fn delivered(
     b: Book,
     pairs: usize,
     lines: usize,
+    kept: usize,
     buyers: &[u8],
     elevators: &[u8],
     sellers: &[u8],
     lots: &[u32],
     delivered: &[u32],
     terminated: &[u32],
+    lapsed: &[u32],
     out: &mut [u8],
     at: usize,
 ) -> usize
     requires { ⌜ (b .held ≤ 128) × (b .lot .0 ≤ 1_000) ⌝ }
-    requires { ⌜ (lines ≤ length (now buyers)) × (lines ≤ length (now elevators)) × (lines ≤ length (now sellers)) × (lines ≤ length (now lots)) ⌝ }
-    requires { ⌜ (b .held ≤ length (now delivered)) × (b .held ≤ length (now terminated)) ⌝ }
-    requires { ⌜ ((i : ℕ) → i < lines → (entry (now buyers) i < 128) × (entry (now sellers) i < 128) × (entry (now lots) i ≤ 1_000_000)) ⌝ }
-    requires { ⌜ at + length (delivery b pairs lines (now buyers) (now elevators) (now sellers) (now lots) (now delivered) (now terminated)) ≤ length (now out) ⌝ }
-    ensures { λ r. ⌜ Laid (now (out .entry)) at (delivery b pairs lines (now (buyers .entry)) (now (elevators .entry)) (now (sellers .entry)) (now (lots .entry)) (now (delivered .entry)) (now (terminated .entry))) (now (out .exit)) r ⌝ }
+    requires { ⌜ (kept ≤ length (now buyers)) × (kept ≤ length (now elevators)) × (kept ≤ length (now sellers)) × (kept ≤ length (now lots)) ⌝ }
+    requires { ⌜ (b .held ≤ length (now delivered)) × (b .held ≤ length (now terminated)) × (b .held ≤ length (now lapsed)) ⌝ }
+    requires { ⌜ ((i : ℕ) → i < kept → (entry (now buyers) i < 128) × (entry (now sellers) i < 128) × (entry (now lots) i ≤ 1_000_000)) ⌝ }
+    requires { ⌜ at + length (delivery b pairs lines kept (now buyers) (now elevators) (now sellers) (now lots) (now delivered) (now terminated) (now lapsed)) ≤ length (now out) ⌝ }
+    ensures { λ r. ⌜ Laid (now (out .entry)) at (delivery b pairs lines kept (now (buyers .entry)) (now (elevators .entry)) (now (sellers .entry)) (now (lots .entry)) (now (delivered .entry)) (now (terminated .entry)) (now (lapsed .entry))) (now (out .exit)) r ⌝ }
 {
     let lot = b.lot;
     let held = b.held;
     let mut codes = [0; 896];
     codes::laid(b, &mut codes);
-    let at = counts(pairs, lines, out, at);
-    let at = rows::head(lines, out, at);
-    let at = rows::lines(
-        &codes,
-        buyers,
-        elevators,
-        sellers,
-        lots,
-        lot,
-        lines,
-        out,
-        at,
-    );
-    lots::sections(&codes, delivered, terminated, held, out, at)
+    let at = counts(pairs, lines, kept, out, at);
+    let at = rows::head(kept, out, at);
+    let at = rows::lines(&codes, buyers, elevators, sellers, lots, lot, kept, out, at);
+    lots::sections(&codes, delivered, terminated, lapsed, held, out, at)
 }

@@ -1,28 +1,25 @@
 -- What an accepted expiry writes into the lists that it is lent, read as lines.
-use Rattle.numbers.proofs.Words.{ℕ, _+_, _<_, arith, _≡_, ap, ap₂, _∙_, Bool, cond, _&&_, _||_, List, [], map, eqb, natAbs, length, getD, length-map, getD-take, not-false, listed, entry, less, over, total}
+use Rattle.numbers.proofs.Words.{ℕ, _+_, _<_, arith, _≡_, ap, ap₂, _∙_, List, [], map, natAbs, length, getD-take, not-false, listed, entry, less}
 use Rattle.rules.specs.declared.book.{Book.Book, Section.Section, Notice.Notice}
-use Rattle.numbers.proofs.Sums.{naturals}
 use Rattle.numbers.proofs.Changed.{read-at}
-use Rattle.numbers.proofs.Lists.{over-at}
-use Rattle.numbers.proofs.Ranges.{listed-read, less-at, Left, left-all, left-less, sum-same}
+use Rattle.numbers.proofs.Ranges.{less-at, Left, left-all, left-less}
 use Rattle.rules.specs.Book.{heldSections, filedNotices, noticeAt, sectionAt, sectionOf, sectionOfNoughts, positionOf}
 use Rattle.rules.specs.Calls.{first, handedOut, count}
 use Rattle.rules.specs.Expiry.{size}
 use Rattle.rules.specs.Expiry.Failing.{failing}
 use Rattle.rules.specs.Expiry.Codes.{dOfCodes, givenInCodes}
 use Rattle.rules.specs.Expiry.Across.{dOverall, givenAcross}
-use Rattle.rules.specs.Expiry.Passes.{Line}
-use Rattle.rules.specs.Expiry.Call.{Lists, delivered, terminated, lines, expiryRefusals, expiryAnswer, expiryWritten, expiryLists}
-use Rattle.rules.specs.History.{Register, lotsWhere, registerLots, drawnLots}
+use Rattle.rules.specs.Expiry.Call.{Lists, lineOf, remaining, terminated, lines, kept, lapsed, delivered, expiryRefusals, expiryAnswer, expiryWritten, expiryLists}
+use Rattle.rules.specs.History.{Register, registerLines}
 use Rattle.book_laws.proofs.Answers.{first-none}
+use Rattle.book_laws.proofs.ExpiryLists.{register-written, delivered-written, terminated-written, lapsed-written}
 use Rattle.book_laws.proofs.Good.{Good, facts}
 use Rattle.book_laws.proofs.Held.{held-length}
-use Rattle.method_laws.proofs.StageTwo.{lineLots}
 
--- what is delivered of the sections' lots, and what is terminated
-delivered-left : (ss : List Section) (ns : List Notice) → Left (map size ss) (delivered ss ns)
-unfolding delivered
-delivered-left ss ns =
+-- what the method leaves of the sections' lots
+remaining-left : (ss : List Section) (ns : List Notice) → Left (map size ss) (remaining ss ns)
+unfolding remaining
+remaining-left ss ns =
     let sizes = map size ss in
     let failed = failing ss ns in
     let sound = less sizes failed in
@@ -31,87 +28,64 @@ delivered-left ss ns =
     let left = less sound given in
     left-less sizes left (givenAcross ss (dOverall ss gap given) left) (left-less sizes sound given (left-less sizes sizes failed (left-all sizes)))
 
-terminated-left : (ss : List Section) (kept : List ℕ) → Left (map size ss) (terminated ss kept)
-unfolding terminated
-terminated-left ss kept = left-less (map size ss) (map size ss) kept (left-all (map size ss))
-
 -- the two make up each section's lots (01, Expiry, 1.2)
-delivered-terminated : (ss : List Section) (ns : List Notice) (i : ℕ) → i < length ss → entry (delivered ss ns) i + entry (terminated ss (delivered ss ns)) i ≡ size (sectionOf ss i)
+remaining-terminated : (ss : List Section) (ns : List Notice) (i : ℕ) → i < length ss → entry (remaining ss ns) i + entry (terminated ss (remaining ss ns)) i ≡ size (sectionOf ss i)
 unfolding terminated
-delivered-terminated ss ns i h = omega (arith, less-at (map size ss) (delivered ss ns) i, delivered-left ss ns .within i, read-at size ss i (sectionOfNoughts []) 0 h)
+remaining-terminated ss ns i h = omega (arith, less-at (map size ss) (remaining ss ns) i, remaining-left ss ns .within i, read-at size ss i (sectionOfNoughts []) 0 h)
 
 module _ (b : Book) (ls : Lists) (accepted : first (expiryRefusals b ls) ≡ 0) where
-  -- the register of the expiry, as a list of calls sees it, and its lines
-  abbrev pub written : Register
-  written = record { book = b; lists = expiryLists b ls; lines = expiryAnswer b ls .lines }
+  abbrev ss : List Section
+  ss = heldSections b
 
-  abbrev pub formed : List Line
-  formed = lines (heldSections b) (filedNotices b)
+  abbrev ns : List Notice
+  ns = filedNotices b
+
+  -- the register of the expiry, as a list of calls sees it
+  abbrev pub written : Register
+  written = record { book = b; lists = expiryLists b ls; formed = lines ss ns; lines = expiryAnswer b ls .lines; kept = expiryAnswer b ls .kept }
 
   -- the book of an accepted expiry is good
   pub written-book : Good b
   unfolding expiryRefusals
   written-book = facts b (not-false _ (first-none _ _ (omega arith) accepted .0))
 
-  -- it counts all lines formed (01, Calls, 7)
-  pub written-lines : written .lines ≡ length formed
+  -- it counts all lines formed, and the lines kept (01, Calls, 7; 02, a, 6)
+  pub written-lines : written .lines ≡ length (lines ss ns)
   unfolding expiryAnswer
-  written-lines = ap (λ (n : ℕ). count n formed) accepted
+  written-lines = ap (λ (n : ℕ). count n (lines ss ns)) accepted
+
+  written-kept : written .kept ≡ length (kept ss ns)
+  unfolding expiryAnswer
+  written-kept = ap (λ (n : ℕ). count n (kept ss ns)) accepted
 
   -- and hands out the lists written (01, Calls, 5)
   written-lists : written .lists ≡ expiryWritten b ls
   unfolding expiryLists
   written-lists = ap (λ (n : ℕ). handedOut n (expiryWritten b ls) ls) accepted
 
-  -- the lots of the lines that pass a test of a line's buyer, elevator and seller
-  written-where :
-      (test : ℕ → ℕ → ℕ → Bool) →
-      lotsWhere written (λ (k : ℕ). test (entry (written .lists .buyers) k) (entry (written .lists .elevators) k) (entry (written .lists .sellers) k)) ≡
-      lineLots (λ (l : Line). test (l .buyer) (l .elevator) (l .seller)) formed
-  unfolding lotsWhere expiryWritten
-  written-where test =
-      let blank : Line = record { buyer = 0; elevator = 0; seller = 0; lots = 0 } in
-      let lots : Lists → ℕ → ℕ = λ w k. cond (test (entry (w .buyers) k) (entry (w .elevators) k) (entry (w .sellers) k)) (entry (w .lots) k) 0 in
-      let at : (read : Line → ℕ) (list : List ℕ) (k : ℕ) → k < length formed → entry (over (map read formed) list) k ≡ read (getD formed k blank) =
-      λ read list k h. over-at (map read formed) list k 0 (omega (arith, length-map formed read, h)) ∙ read-at read formed k blank 0 h
-      in
-      ap₂ (λ (n : ℕ) (w : Lists). total (listed n (lots w))) written-lines written-lists
-      ∙ sum-same _+_ 0 naturals (length formed) _ _
-      (λ k h. rw (at (λ l. l .buyer) (ls .buyers) k h, at (λ l. l .elevator) (ls .elevators) k h, at (λ l. l .seller) (ls .sellers) k h, at (λ l. l .lots) (ls .lots) k h))
-      ∙ ap total (listed-read (λ (l : Line). cond (test (l .buyer) (l .elevator) (l .seller)) (l .lots) 0) formed blank)
+  -- the register is the lines kept (01, Calls, 7; 02, a, 6)
+  pub written-register : registerLines written ≡ kept ss ns
+  unfolding registerLines
+  written-register = ap₂ (λ (n : ℕ) (w : Lists). listed n (lineOf w)) written-kept written-lists ∙ register-written b ls
 
-  -- a section's lots in the register are those of the lines formed that name it (01, Calls, 8)
-  pub written-section : (i : ℕ) → registerLots written i ≡ lineLots (λ (l : Line). eqb (l .buyer) i || eqb (l .seller) i) formed
-  written-section i = written-where (λ (buyer elevator seller : ℕ). eqb buyer i || eqb seller i)
-
-  -- a notice's drawn lots are those of the lines formed with its section as seller at its elevator (01, Calls, 9)
-  pub written-notice : (n : ℕ) → drawnLots written n ≡ lineLots (λ (l : Line). eqb (l .seller) (noticeAt b n .section) && eqb (l .elevator) (noticeAt b n .elevator)) formed
-  written-notice n = written-where (λ (buyer elevator seller : ℕ). eqb seller (noticeAt b n .section) && eqb elevator (noticeAt b n .elevator))
-
-  sections-held : length (heldSections b) ≡ b .held
+  sections-held : length ss ≡ b .held
   sections-held = held-length b (written-book .section-places) (written-book .held)
 
-  -- each section held has its delivered lots
-  pub written-delivered : (i : ℕ) → i < b .held → entry (written .lists .delivered) i ≡ entry (delivered (heldSections b) (filedNotices b)) i
-  unfolding expiryWritten
-  written-delivered i h =
-      let ss = heldSections b in
-      let ns = filedNotices b in
-      ap (λ (w : Lists). entry (w .delivered) i) written-lists
-      ∙ over-at (delivered ss ns) (ls .delivered) i 0 (omega (arith, h, sections-held, delivered-left ss ns .long, length-map ss size))
+  -- delivered, terminated and lapsed lots of a section held
+  module _ (i : ℕ) (h : i < b .held) where
+    held : i < length ss
+    held = omega (arith, h, sections-held)
 
-  -- and its terminated lots
-  pub written-terminated : (i : ℕ) → i < b .held → entry (written .lists .terminated) i ≡ entry (terminated (heldSections b) (delivered (heldSections b) (filedNotices b))) i
-  unfolding expiryWritten
-  written-terminated i h =
-      let ss = heldSections b in
-      let kept = delivered ss (filedNotices b) in
-      ap (λ (w : Lists). entry (w .terminated) i) written-lists
-      ∙ over-at (terminated ss kept) (ls .terminated) i 0 (omega (arith, h, sections-held, terminated-left ss kept .long, length-map ss size))
+    pub written-delivered : entry (written .lists .delivered) i ≡ entry (delivered ss ns) i
+    written-delivered = ap (λ (w : Lists). entry (w .delivered) i) written-lists ∙ delivered-written b ls i held
 
-  -- which make up the size of its position (demand 3.2)
-  pub made-up : (i : ℕ) → i < b .held → entry (written .lists .delivered) i + entry (written .lists .terminated) i ≡ natAbs (positionOf (sectionAt b i))
-  made-up i h =
-      ap₂ _+_ (written-delivered i h) (written-terminated i h)
-      ∙ delivered-terminated (heldSections b) (filedNotices b) i (omega (arith, h, sections-held))
-      ∙ ap size (getD-take (b .held) (b .sections) i (sectionOfNoughts []) h)
+    pub written-lapsed : entry (written .lists .lapsed) i ≡ entry (lapsed ss ns) i
+    written-lapsed = ap (λ (w : Lists). entry (w .lapsed) i) written-lists ∙ lapsed-written b ls i held
+
+    -- the terminated lots and those that the method leaves make up the size of its position (01, Expiry, 1.2)
+    pub made-up : entry (remaining ss ns) i + entry (written .lists .terminated) i ≡ natAbs (positionOf (sectionAt b i))
+    made-up =
+        ap (λ (w : Lists). entry (remaining ss ns) i + entry (w .terminated) i) written-lists
+        ∙ ap (λ (n : ℕ). entry (remaining ss ns) i + n) (terminated-written b ls i held)
+        ∙ remaining-terminated ss ns i held
+        ∙ ap size (getD-take (b .held) (b .sections) i (sectionOfNoughts []) h)

@@ -1,6 +1,6 @@
 // The worked example by the public calls, from opening to expiry (01, Checked, 6): a row for each call with its answer; after the day session the margins
-// and their sum; after the expiry its counts, the lines, what each section delivers and what it has terminated, and a place of the register past the
-// last line. Then calls that are refused, one of them on the book of noughts.
+// and their sum; after the expiry its counts, the lines, what each section delivers and what of it is terminated and has lapsed, and a place of the register
+// past the last line. Then calls that are refused, one of them on the book of noughts.
 use libc::STDOUT_FILENO;
 use rules::book::Answer;
 use rules::book::Book;
@@ -127,9 +127,10 @@ fn line(buyer: u8, elevator: u8, seller: u8, lots: u32) {
 
 fn counts(a: ExpiryAnswer) -> Book {
     row(b"expiry", a.number);
-    io::write_all(STDOUT_FILENO, b"pairs and lines");
+    io::write_all(STDOUT_FILENO, b"pairs, lines, kept");
     field(a.pairs as u64);
     field(a.lines as u64);
+    field(a.kept as u64);
     io::write_all(STDOUT_FILENO, b"\n");
     a.book
 }
@@ -141,6 +142,7 @@ fn with_expiry(b: Book) -> Book {
     let mut lots = [99u32; REGISTER_PLACES];
     let mut delivered = [99u32; 4];
     let mut terminated = [99u32; 4];
+    let mut lapsed = [99u32; 4];
     let expired = counts(call_expiry::expiry(
         b,
         &mut buyers,
@@ -149,6 +151,7 @@ fn with_expiry(b: Book) -> Book {
         &mut lots,
         &mut delivered,
         &mut terminated,
+        &mut lapsed,
     ));
     line(buyers[0], elevators[0], sellers[0], lots[0]);
     line(buyers[1], elevators[1], sellers[1], lots[1]);
@@ -156,6 +159,7 @@ fn with_expiry(b: Book) -> Book {
     line(buyers[3], elevators[3], sellers[3], lots[3]);
     sections(b"delivered", delivered);
     sections(b"terminated", terminated);
+    sections(b"lapsed", lapsed);
     expired
 }
 

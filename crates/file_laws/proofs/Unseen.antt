@@ -1,23 +1,23 @@
 -- What a file prints does not depend on what stood in the lists that the read was lent, nor on how long they are, once they are long enough
 -- for any file (01, Program, 1; 01, Reading, 3).
-use Rattle.numbers.proofs.Words.{ℕ, zero, suc, _+_, _≤_, _<_, zero-le, le-trans, arith, _≡_, refl, sym, ap, ap₂, _∙_, Bool, true, false, not, cond, and-false, _||_, List, [], _∷_, _++_, map, eqb, length, length-map, length-replicate, length-take-le, le-ltb, eqb-true, getD, pos, some, counted, listed, entry, entryℤ, over}
-use mathlib.Core.List.{flatMap}
+use Rattle.numbers.proofs.Words.{ℕ, zero, suc, _+_, _≤_, _<_, zero-le, le-trans, arith, _≡_, refl, sym, ap, ap₂, _∙_, Bool, true, false, not, cond, and-false, _||_, List, [], _∷_, _++_, eqb, length, length-replicate, length-take-le, le-ltb, eqb-true, ℤ, pos, some, listed, entryℤ, over}
 use Rattle.numbers.proofs.Lists.{over-at}
+use Rattle.numbers.proofs.Passing.{flatMap-same}
 use Rattle.numbers.specs.Text.{bytes, decimal}
 use Rattle.numbers.proofs.Ranges.{listed-length}
-use Rattle.rules.specs.declared.book.{Book.Book, Section.Section, Notice.Notice, Answer.Answer}
+use Rattle.rules.specs.declared.book.{Book.Book, Answer.Answer}
 use Rattle.rules.specs.declared.events.Event.{Event}
 use Rattle.rules.specs.declared.events.Event.the-variants.{Section as SectionEvent, Trade, Session, Condition, Notice as NoticeEvent, Expiry}
 use Rattle.rules.specs.declared.events.Found.{Found}
 use Rattle.rules.specs.declared.events.Found.the-variants.{Values, Refused}
 use Rattle.rules.specs.Book.{good, opened, sectionPlaces, heldSections, filedNotices}
 use Rattle.rules.specs.Calls.{_if_, first, answer, judged, handedOut, count, openingNumber}
-use Rattle.rules.specs.Expiry.{size}
 use Rattle.rules.specs.Expiry.Passes.{Line}
-use Rattle.rules.specs.Expiry.Call.{registerPlaces, dayLast, delivered, terminated, lines, expiryRefusals, afterExpiry, expiryWritten, expiryAnswer}
+use Rattle.rules.specs.Expiry.Call.{registerPlaces, dayLast, kept, expiryRefusals, afterExpiry, expiryWritten, expiryAnswer}
 use Rattle.rules.specs.History.{Single, Session as Held, answerOf, sessionOf}
 use Rattle.rules.specs.File.{wordAt, eventsIn, misshapen, foundAt, readAt, Lent, Run, stopped, callOf, ownNumber, summed, afterEvent, readFrom, readWhole, fileAnswer, fileLists}
-use Rattle.rules.specs.Listing.{row, lineRow, sectionRow, listingOf, printedWith, noughts, printed}
+use Rattle.rules.specs.Listing.{row, sectionRow, listingOf, printedWith, noughts, printed}
+use Rattle.book_laws.proofs.ExpiryLists.{register-rows, delivered-written, terminated-written, lapsed-written}
 use Rattle.book_laws.proofs.Good.{facts}
 use Rattle.book_laws.proofs.Kept.{call-answered}
 use Rattle.book_laws.proofs.Kept.Opening.{opening-kept}
@@ -30,6 +30,7 @@ pub record Roomy (lent : Lent) : Type 0 where
   pub lots : registerPlaces ≤ length (lent .lists .lots)
   pub delivered : sectionPlaces ≤ length (lent .lists .delivered)
   pub terminated : sectionPlaces ≤ length (lent .lists .terminated)
+  pub lapsed : sectionPlaces ≤ length (lent .lists .lapsed)
   pub sums : sectionPlaces ≤ length (lent .sums)
 
 -- an expiry's number is then that of its book: neither 23 nor 24 is said
@@ -57,6 +58,7 @@ module _ (lent : Lent) (room : Roomy lent) (b : Book) where
             le-ltb _ _ (room .lots),
             le-ltb _ _ (le-trans held (room .delivered)),
             le-ltb _ _ (le-trans held (room .terminated)),
+            le-ltb _ _ (le-trans held (room .lapsed)),
           )
 
   own-booked : (code : List ℕ) → ownNumber lent b Expiry code ≡ expiryNumber b
@@ -191,71 +193,46 @@ module _ (file : List ℕ) (lent : Lent) where
       (λ e. read-fits (eventsIn file) (startOf file) (opening-kept _ _ _ (opening-said (misshapen file) _ (eqb-true opening 0 e))))
       (stopped-fits opening 0)
 
--- what is written for each number is the same where the numbers' rows are
-flat-same : (f g : ℕ → List ℕ) (a n : ℕ) → ((i : ℕ) → i < a + n → f i ≡ g i) → flatMap f (counted a n) ≡ flatMap g (counted a n)
-unfolding flatMap counted
-flat-same f g a zero same = refl
-flat-same f g a (suc n) same = ap₂ _++_ (same a (omega arith)) (flat-same f g (suc a) n (λ i h. same i (omega (arith, h))))
-
-delivered-length : (ss : List Section) (ns : List Notice) → length (delivered ss ns) ≡ length ss
-unfolding delivered
-delivered-length ss ns = listed-length _ _ ∙ listed-length _ _ ∙ listed-length _ _ ∙ length-map ss size
-
-terminated-length : (ss : List Section) (kept : List ℕ) → length (terminated ss kept) ≡ length ss
-unfolding terminated
-terminated-length ss kept = listed-length _ _ ∙ length-map ss size
-
--- what is read of entries that were written does not depend on the list below them
-over-same : {A : Type 0} (written xs ys : List A) (i : ℕ) (d : A) → i < length written → getD (over written xs) i d ≡ getD (over written ys) i d
-over-same written xs ys i d h = over-at written xs i d h ∙ sym (over-at written ys i d h)
-
 -- the rows of an accepted read are those of its book
 module _ (run : Run) (fits : Fits run) (none : run .number ≡ 0) where
   abbrev b : Book
   b = run .book
 
-  abbrev formed : List Line
-  formed = lines (heldSections b) (filedNotices b)
+  abbrev register : List Line
+  register = kept (heldSections b) (filedNotices b)
 
-  abbrev kept : List ℕ
-  kept = delivered (heldSections b) (filedNotices b)
+  abbrev sums : List ℤ
+  sums = listed (b .held) (entryℤ (run .sums))
 
   abbrev written : Lent → Lent
-  written l = record { lists = expiryWritten b (l .lists); sums = over (listed (b .held) (entryℤ (run .sums))) (l .sums) }
+  written l = record { lists = expiryWritten b (l .lists); sums = over sums (l .sums) }
 
   module _ (l m : Lent) where
-    line-same : (i : ℕ) → i < length formed → lineRow b (written l .lists) i ≡ lineRow b (written m .lists) i
-    unfolding lineRow expiryWritten
-    line-same i h =
-        let same : (read : Line → ℕ) (xs ys : List ℕ) → entry (over (map read formed) xs) i ≡ entry (over (map read formed) ys) i =
-        λ read xs ys. over-same (map read formed) xs ys i 0 (omega (arith, length-map formed read, h)) in
-        rw (
-          same (λ x. x .buyer) (l .lists .buyers) (m .lists .buyers),
-          same (λ x. x .elevator) (l .lists .elevators) (m .lists .elevators),
-          same (λ x. x .seller) (l .lists .sellers) (m .lists .sellers),
-          same (λ x. x .lots) (l .lists .lots) (m .lists .lots),
-        )
-
     section-same : (i : ℕ) → i < b .held → sectionRow b (written l) i ≡ sectionRow b (written m) i
-    unfolding sectionRow expiryWritten
+    unfolding sectionRow
     section-same i h =
-        let ss = heldSections b in
-        let held = length-take-le (b .held) (b .sections) fits in
+        let held : i < length (heldSections b) = omega (arith, h, length-take-le (b .held) (b .sections) fits) in
+        let place : i < length sums = omega (arith, h, listed-length (b .held) (entryℤ (run .sums))) in
         rw (
-          over-same kept (l .lists .delivered) (m .lists .delivered) i 0 (omega (arith, delivered-length ss (filedNotices b), held, h)),
-          over-same (terminated ss kept) (l .lists .terminated) (m .lists .terminated) i 0 (omega (arith, terminated-length ss kept, held, h)),
-          over-same (listed (b .held) (entryℤ (run .sums))) (l .sums) (m .sums) i (pos 0) (omega (arith, listed-length (b .held) (entryℤ (run .sums)), h)),
+          delivered-written b (l .lists) i held,
+          delivered-written b (m .lists) i held,
+          terminated-written b (l .lists) i held,
+          terminated-written b (m .lists) i held,
+          lapsed-written b (l .lists) i held,
+          lapsed-written b (m .lists) i held,
+          over-at sums (l .sums) i (pos 0) place,
+          over-at sums (m .sums) i (pos 0) place,
         )
 
     listing-same : listingOf (fileAnswer run) (fileLists run l) ≡ listingOf (fileAnswer run) (fileLists run m)
     unfolding listingOf fileAnswer fileLists
     listing-same =
         let lists : (x : Lent) → fileLists run x ≡ written x = λ x. ap (λ (n : ℕ). handedOut n (written x) x) none in
-        let counted-lines : fileAnswer run .lines ≡ length formed = ap (λ (n : ℕ). count n formed) none in
+        let counted-lines : fileAnswer run .kept ≡ length register = ap (λ (n : ℕ). count n register) none in
         rw (lists l, lists m, counted-lines)
-        (ap₂ (λ (rows sections : List ℕ). row (bytes "register" ∷ decimal (length formed) ∷ []) ++ rows ++ sections)
-        (flat-same _ _ 0 (length formed) (λ i h. line-same i (omega (arith, h))))
-        (flat-same _ _ 0 (b .held) (λ i h. section-same i (omega (arith, h)))))
+        (ap₂ (λ (rows sections : List ℕ). row (bytes "register" ∷ decimal (length register) ∷ []) ++ rows ++ sections)
+        (register-rows b (l .lists) ∙ sym (register-rows b (m .lists)))
+        (flatMap-same _ _ 0 (b .held) (λ i h. section-same i (omega (arith, h)))))
 
 noughts-roomy : Roomy noughts
 unfolding noughts
@@ -269,6 +246,7 @@ noughts-roomy =
       lots = omega (arith, register);
       delivered = omega (arith, sections);
       terminated = omega (arith, sections);
+      lapsed = omega (arith, sections);
       sums = omega (arith, length-replicate sectionPlaces (pos 0));
     }
 

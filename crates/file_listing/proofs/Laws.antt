@@ -3,12 +3,12 @@ use Rattle.numbers.proofs.Words.{ℕ, _≤_, arith, _≡_, sym, ap, ap₂, subs
 use Rattle.rules.specs.declared.book.{FileAnswer.FileAnswer}
 use Rattle.rules.specs.Book.{heldSections, filedNotices}
 use Rattle.rules.specs.Calls.{handedOut, count}
-use Rattle.rules.specs.Expiry.Call.{pairs, lines, expiryWritten}
+use Rattle.rules.specs.Expiry.Call.{pairs, lines, kept, expiryWritten}
 use Rattle.rules.specs.File.{Lent, Run, readWhole, fileAnswer, fileLists}
 use Rattle.rules.specs.Listing.{listingOf, printedWith, noughts, printed}
 use Rattle.book_laws.proofs.Good.{Good, facts}
 use Rattle.book_laws.proofs.Held.{held-good}
-use Rattle.method_delivery.proofs.Book.{few-lines}
+use Rattle.method_delivery.proofs.Taken.{few-kept}
 use Rattle.method_delivery.proofs.Limits.{line-limits, section-limits}
 use Rattle.file_event.proofs.Laws.Cases.{shaped}
 use Rattle.read_laws.proofs.Read.{whole-shaped, whole-from, whole-read}
@@ -22,7 +22,7 @@ use Rattle.listing.proofs.Laws.Listing.{listing-of}
 abbrev pub Listable : FileAnswer → Lent → Type 0
 Listable a lent =
     let ls = lent .lists in
-    Limits (a .book) (a .lines) (ls .buyers) (ls .elevators) (ls .sellers) (ls .lots) (ls .delivered) (ls .terminated) (lent .sums)
+    Limits (a .book) (a .kept) (ls .buyers) (ls .elevators) (ls .sellers) (ls .lots) (ls .delivered) (ls .terminated) (ls .lapsed) (lent .sums)
 
 module _ (file : List ℕ) (lent : Lent) (e : readWhole file lent .number ≡ 0) where
   abbrev run : Run
@@ -43,17 +43,17 @@ module _ (file : List ℕ) (lent : Lent) (e : readWhole file lent .number ≡ 0)
       let new : Lent = record { lists = expiryWritten b (lent .lists); sums = over (listed (b .held) (entryℤ (run .sums))) (lent .sums) } in
       let handed : ℕ → Lent = λ (n : ℕ). handedOut n new lent in
       subst
-      (λ (n : ℕ). Listable (record { number = n; place = run .place; pairs = count n (pairs (heldSections b) (filedNotices b)); lines = count n (lines (heldSections b) (filedNotices b)); book = b }) (handed n))
+      (λ (n : ℕ). Listable (record { number = n; place = run .place; pairs = count n (pairs (heldSections b) (filedNotices b)); lines = count n (lines (heldSections b) (filedNotices b)); kept = count n (kept (heldSections b) (filedNotices b)); book = b }) (handed n))
       (sym e)
       (record {
-        few = few-lines book-good;
+        few = few-kept book-good;
         held = book-good .held;
         lot = book-good .lot .most;
         codes = λ i h. held-good b book-good i h .code-length;
         line = line-limits b book-good (lent .lists);
         section = λ i h.
             let lots = section-limits b book-good (lent .lists) i h in
-            (lots .0, lots .1, omega (arith, few-events, sums-within run (whole-sound file lent e) i, ap natAbs (ap (λ (n : ℕ). entryℤ (handed n .sums) i) (sym e) ∙ sums-handed file lent e i h)));
+            (lots .0, lots .1, lots .2, omega (arith, few-events, sums-within run (whole-sound file lent e) i, ap natAbs (ap (λ (n : ℕ). entryℤ (handed n .sums) i) (sym e) ∙ sums-handed file lent e i h)));
       })
 
 -- what a read prints, by its number (01, Program, 1 and 2)
@@ -73,8 +73,8 @@ module _ (file : List ℕ) (lent : Lent) where
   prints-row ne = ap (byNumber (readWhole file lent)) (ne-eqb _ 0 ne)
 
 -- what is said of a text's bytes in the buffer is said of the same text
-pub said : {text row bytes : List ℕ} {n : ℕ} → text ≡ row → (n ≡ length row) × (bytes ≡ over row (replicate 20_289 0)) → (n ≡ length text) × (bytes ≡ over text (replicate 20_289 0))
-said {bytes = bytes} {n = n} e = subst (λ (l : List ℕ). (n ≡ length l) × (bytes ≡ over l (replicate 20_289 0))) (sym e)
+pub said : {text row bytes : List ℕ} {n : ℕ} → text ≡ row → (n ≡ length row) × (bytes ≡ over row (replicate 21_313 0)) → (n ≡ length text) × (bytes ≡ over text (replicate 21_313 0))
+said {bytes = bytes} {n = n} e = subst (λ (l : List ℕ). (n ≡ length l) × (bytes ≡ over l (replicate 21_313 0))) (sym e)
 
 -- The program's read, which lends lists of noughts (01, Program, 1)
 module _ (file : List ℕ) {a : FileAnswer} (answer : a ≡ fileAnswer (readWhole file noughts)) where
@@ -93,7 +93,7 @@ module _ (file : List ℕ) {a : FileAnswer} (answer : a ≡ fileAnswer (readWhol
     pub listable : Listable a after
     listable = subst₂ Listable (sym answer) (sym lists) (accepted-limits file noughts (sym number-is ∙ z))
 
-    pub prints-accepted : printed file ≡ listing (a .book) (a .lines) (after .lists .buyers) (after .lists .elevators) (after .lists .sellers) (after .lists .lots) (after .lists .delivered) (after .lists .terminated) (after .sums)
+    pub prints-accepted : printed file ≡ listing (a .book) (a .kept) (after .lists .buyers) (after .lists .elevators) (after .lists .sellers) (after .lists .lots) (after .lists .delivered) (after .lists .terminated) (after .lists .lapsed) (after .sums)
     unfolding printed
     prints-accepted =
         prints-listing file noughts (sym number-is ∙ z) ∙ ap₂ listingOf (sym answer) (sym lists) ∙ listing-of a after

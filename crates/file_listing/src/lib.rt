@@ -16,7 +16,7 @@ pub struct Listing {
 // A refused file: its number and its place (01, Program, 2).
 fn refused(number: u8, place: usize) -> Listing
     ensures { λ r. ⌜ r .length ≡ length (refusedRow number place) ⌝ }
-    ensures { λ r. ⌜ r .bytes ≡ over (refusedRow number place) (replicate 20_289 0) ⌝ }
+    ensures { λ r. ⌜ r .bytes ≡ over (refusedRow number place) (replicate 21_313 0) ⌝ }
 {
     let mut bytes = [0; LISTING_BYTES_MOST];
     let end = listing::refused(number, place, &mut bytes);
@@ -26,7 +26,7 @@ fn refused(number: u8, place: usize) -> Listing
 // What the program prints of a file, whatever its bytes (01, Program, 1 and 2 and 3; 01, Bound, a).
 pub fn printed(file: &[u8]) -> Listing
     ensures { λ r. ⌜ r .length ≡ length (Program.printed (now (file .entry))) ⌝ }
-    ensures { λ r. ⌜ r .bytes ≡ over (Program.printed (now (file .entry))) (replicate 20_289 0) ⌝ }
+    ensures { λ r. ⌜ r .bytes ≡ over (Program.printed (now (file .entry))) (replicate 21_313 0) ⌝ }
 {
     let mut buyers = [0; REGISTER_PLACES];
     let mut elevators = [0; REGISTER_PLACES];
@@ -34,6 +34,7 @@ pub fn printed(file: &[u8]) -> Listing
     let mut lots = [0; REGISTER_PLACES];
     let mut delivered = [0; SECTION_PLACES];
     let mut terminated = [0; SECTION_PLACES];
+    let mut lapsed = [0; SECTION_PLACES];
     let mut sums = [0; SECTION_PLACES];
     let answer = file_read::read(
         file,
@@ -43,25 +44,25 @@ pub fn printed(file: &[u8]) -> Listing
         &mut lots,
         &mut delivered,
         &mut terminated,
+        &mut lapsed,
         &mut sums,
     );
-    let number = answer.number;
-    let place = answer.place;
-    let lines = answer.lines;
+    let kept = answer.kept;
     let book = answer.book;
-    if number != ACCEPTED {
-        return refused(number, place);
+    if answer.number != ACCEPTED {
+        return refused(answer.number, answer.place);
     }
     let mut bytes = [0; LISTING_BYTES_MOST];
     let length = listing::accepted(
         book,
-        lines,
+        kept,
         &buyers,
         &elevators,
         &sellers,
         &lots,
         &delivered,
         &terminated,
+        &lapsed,
         &sums,
         &mut bytes,
     );

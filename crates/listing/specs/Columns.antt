@@ -12,8 +12,9 @@ codeAt codes i = take 7 (drop (7 * i) codes)
 abbrev pub field : List ℕ → ℕ → List ℕ
 field text end = text ++ (end ∷ [])
 
+-- how many lines are kept (01, Program, 1; 02, a, 6)
 abbrev pub headRow : ℕ → List ℕ
-headRow lines = row (bytes "register" ∷ decimal lines ∷ [])
+headRow kept = row (bytes "register" ∷ decimal kept ∷ [])
 
 abbrev pub refusedRow : ℕ → ℕ → List ℕ
 refusedRow number place = row (bytes "refused" ∷ decimal number ∷ decimal place ∷ [])
@@ -22,24 +23,25 @@ abbrev pub lineRowOf : List ℕ → Tonnes → ℕ → ℕ → ℕ → ℕ → L
 lineRowOf codes lot buyer elevator seller lots =
     row (codeAt codes buyer ∷ decimal elevator ∷ codeAt codes seller ∷ decimal lots ∷ decimal (tonnesOf lot (record { 0 = pos lots }) .0) ∷ [])
 
--- a section's code and its lots, with the byte that ends them; and its row
-abbrev pub lotsFields : List ℕ → ℕ → ℕ → ℕ → ℕ → List ℕ
-lotsFields codes i delivered terminated end = field (codeAt codes i) 32 ++ (field (decimal delivered) 32 ++ field (decimal terminated) end)
+-- a section's code and its lots, with the byte that ends them; and its row (01, Program, 1; 02, a, 4)
+abbrev pub lotsFields : List ℕ → ℕ → ℕ → ℕ → ℕ → ℕ → List ℕ
+lotsFields codes i delivered terminated lapsed end =
+    field (codeAt codes i) 32 ++ (field (decimal delivered) 32 ++ (field (decimal terminated) 32 ++ field (decimal lapsed) end))
 
-abbrev pub sectionRowOf : List ℕ → ℕ → ℕ → ℕ → ℤ → List ℕ
-sectionRowOf codes i delivered terminated sum = row (codeAt codes i ∷ decimal delivered ∷ decimal terminated ∷ signedDecimal sum ∷ [])
+abbrev pub sectionRowOf : List ℕ → ℕ → ℕ → ℕ → ℕ → ℤ → List ℕ
+sectionRowOf codes i delivered terminated lapsed sum = row (codeAt codes i ∷ decimal delivered ∷ decimal terminated ∷ decimal lapsed ∷ signedDecimal sum ∷ [])
 
 -- the rows of the first lines, and of the sections held, by number
 abbrev pub lineRows : List ℕ → Tonnes → List ℕ → List ℕ → List ℕ → List ℕ → ℕ → List ℕ
 lineRows codes lot buyers elevators sellers lots lines =
     flatMap (λ (i : ℕ). lineRowOf codes lot (entry buyers i) (entry elevators i) (entry sellers i) (entry lots i)) (counted 0 lines)
 
-abbrev pub sectionRows : List ℕ → List ℕ → List ℕ → List ℤ → ℕ → List ℕ
-sectionRows codes delivered terminated sums held =
-    flatMap (λ (i : ℕ). sectionRowOf codes i (entry delivered i) (entry terminated i) (entryℤ sums i)) (counted 0 held)
+abbrev pub sectionRows : List ℕ → List ℕ → List ℕ → List ℕ → List ℤ → ℕ → List ℕ
+sectionRows codes delivered terminated lapsed sums held =
+    flatMap (λ (i : ℕ). sectionRowOf codes i (entry delivered i) (entry terminated i) (entry lapsed i) (entryℤ sums i)) (counted 0 held)
 
--- the listing of a book and so many lines, the lists by name
-abbrev pub listing : Book → ℕ → List ℕ → List ℕ → List ℕ → List ℕ → List ℕ → List ℕ → List ℤ → List ℕ
-listing b lines buyers elevators sellers lots delivered terminated sums =
-    listingOf (record { number = 0; place = 0; pairs = 0; lines = lines; book = b })
-    (record { lists = record { buyers = buyers; elevators = elevators; sellers = sellers; lots = lots; delivered = delivered; terminated = terminated }; sums = sums })
+-- the listing of a book and so many lines kept, the lists by name
+abbrev pub listing : Book → ℕ → List ℕ → List ℕ → List ℕ → List ℕ → List ℕ → List ℕ → List ℕ → List ℤ → List ℕ
+listing b kept buyers elevators sellers lots delivered terminated lapsed sums =
+    listingOf (record { number = 0; place = 0; pairs = 0; lines = kept; kept = kept; book = b })
+    (record { lists = record { buyers = buyers; elevators = elevators; sellers = sellers; lots = lots; delivered = delivered; terminated = terminated; lapsed = lapsed }; sums = sums })

@@ -10,45 +10,36 @@ mod digits;
 pub mod rows;
 pub mod text;
 
-// The listing of an expired book, its register and its lists: how many lines, a row for each line, a row for each section. It answers how
-// many bytes were written; later ones remain (01, Program, 1 and 3; 01, Forms, 7; 01, Bound, a).
+// The listing of an expired book, its register and its lists: how many lines are kept, a row for each of them, a row for each section. It
+// answers how many bytes were written; later ones remain (01, Program, 1 and 3; 01, Forms, 7; 01, Bound, a; 02, a, 4 and 6).
 pub fn accepted(
     b: Book,
-    lines: usize,
+    kept: usize,
     buyers: &[u8],
     elevators: &[u8],
     sellers: &[u8],
     lots: &[u32],
     delivered: &[u32],
     terminated: &[u32],
+    lapsed: &[u32],
     sums: &[i64],
     out: &mut [u8],
 ) -> usize
     requires { ⌜ (b .held ≤ 128) × (b .lot .0 ≤ 1_000) ⌝ }
-    requires { ⌜ (lines ≤ length (now buyers)) × (lines ≤ length (now elevators)) × (lines ≤ length (now sellers)) × (lines ≤ length (now lots)) ⌝ }
-    requires { ⌜ (b .held ≤ length (now delivered)) × (b .held ≤ length (now terminated)) × (b .held ≤ length (now sums)) ⌝ }
-    requires { ⌜ ((i : ℕ) → i < lines → (entry (now buyers) i < 128) × (entry (now sellers) i < 128) × (entry (now lots) i ≤ 1_000_000)) ⌝ }
-    requires { ⌜ length (listing b lines (now buyers) (now elevators) (now sellers) (now lots) (now delivered) (now terminated) (now sums)) ≤ length (now out) ⌝ }
-    ensures { λ r. ⌜ r ≡ length (listing b lines (now (buyers .entry)) (now (elevators .entry)) (now (sellers .entry)) (now (lots .entry)) (now (delivered .entry)) (now (terminated .entry)) (now (sums .entry))) ⌝ }
-    ensures { λ _. ⌜ now (out .exit) ≡ over (listing b lines (now (buyers .entry)) (now (elevators .entry)) (now (sellers .entry)) (now (lots .entry)) (now (delivered .entry)) (now (terminated .entry)) (now (sums .entry))) (now (out .entry)) ⌝ }
+    requires { ⌜ (kept ≤ length (now buyers)) × (kept ≤ length (now elevators)) × (kept ≤ length (now sellers)) × (kept ≤ length (now lots)) ⌝ }
+    requires { ⌜ (b .held ≤ length (now delivered)) × (b .held ≤ length (now terminated)) × (b .held ≤ length (now lapsed)) × (b .held ≤ length (now sums)) ⌝ }
+    requires { ⌜ ((i : ℕ) → i < kept → (entry (now buyers) i < 128) × (entry (now sellers) i < 128) × (entry (now lots) i ≤ 1_000_000)) ⌝ }
+    requires { ⌜ length (listing b kept (now buyers) (now elevators) (now sellers) (now lots) (now delivered) (now terminated) (now lapsed) (now sums)) ≤ length (now out) ⌝ }
+    ensures { λ r. ⌜ r ≡ length (listing b kept (now (buyers .entry)) (now (elevators .entry)) (now (sellers .entry)) (now (lots .entry)) (now (delivered .entry)) (now (terminated .entry)) (now (lapsed .entry)) (now (sums .entry))) ⌝ }
+    ensures { λ _. ⌜ now (out .exit) ≡ over (listing b kept (now (buyers .entry)) (now (elevators .entry)) (now (sellers .entry)) (now (lots .entry)) (now (delivered .entry)) (now (terminated .entry)) (now (lapsed .entry)) (now (sums .entry))) (now (out .entry)) ⌝ }
 {
     let lot = b.lot;
     let held = b.held;
     let mut codes = [0; 896];
     codes::laid(b, &mut codes);
-    let at = rows::head(lines, out, 0);
-    let at = rows::lines(
-        &codes,
-        buyers,
-        elevators,
-        sellers,
-        lots,
-        lot,
-        lines,
-        out,
-        at,
-    );
-    rows::sections(&codes, delivered, terminated, sums, held, out, at)
+    let at = rows::head(kept, out, 0);
+    let at = rows::lines(&codes, buyers, elevators, sellers, lots, lot, kept, out, at);
+    rows::sections(&codes, delivered, terminated, lapsed, sums, held, out, at)
 }
 
 // A refused file's row: the number and the place of its refusal. It answers how many bytes were written; later ones remain

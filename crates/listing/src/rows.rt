@@ -10,12 +10,12 @@ use rules::units::Lots;
 use rules::units::Tonnes;
 use value::signed;
 
-// The first row: how many lines there are (01, Program, 1).
-pub fn head(lines: usize, out: &mut [u8], at: usize) -> usize
-    requires { ⌜ at + length (headRow lines) ≤ length (now out) ⌝ }
-    ensures { λ r. ⌜ Laid (now (out .entry)) at (headRow lines) (now (out .exit)) r ⌝ }
+// The first row: how many lines are kept (01, Program, 1; 02, a, 6).
+pub fn head(kept: usize, out: &mut [u8], at: usize) -> usize
+    requires { ⌜ at + length (headRow kept) ≤ length (now out) ⌝ }
+    ensures { λ r. ⌜ Laid (now (out .entry)) at (headRow kept) (now (out .exit)) r ⌝ }
 {
-    text::row(b"register", lines as u64, out, at)
+    text::row(b"register", kept as u64, out, at)
 }
 
 // Lots become tonnes by the lot size alone (01, Head, 4; 01, Forms, 4).
@@ -52,40 +52,43 @@ fn line(
     text::number(weight.0 as u64, LINE_END, out, at)
 }
 
-// A section's code, delivered and terminated lots, and the byte that ends the last of them (01, Program, 1).
+// A section's code, delivered, terminated and lapsed lots, and the byte that ends the last of them (01, Program, 1; 02, a, 4).
 pub fn lots(
     codes: &[u8],
     i: usize,
     delivered: u32,
     terminated: u32,
+    lapsed: u32,
     end: u8,
     out: &mut [u8],
     at: usize,
 ) -> usize
     requires { ⌜ (length (now codes) ≡ 896) × (i < 128) ⌝ }
-    requires { ⌜ at + length (lotsFields (now codes) i delivered terminated end) ≤ length (now out) ⌝ }
-    ensures { λ r. ⌜ Laid (now (out .entry)) at (lotsFields (now (codes .entry)) i delivered terminated end) (now (out .exit)) r ⌝ }
+    requires { ⌜ at + length (lotsFields (now codes) i delivered terminated lapsed end) ≤ length (now out) ⌝ }
+    ensures { λ r. ⌜ Laid (now (out .entry)) at (lotsFields (now (codes .entry)) i delivered terminated lapsed end) (now (out .exit)) r ⌝ }
 {
     let at = text::code(codes, i, SPACE, out, at);
     let at = text::number(delivered as u64, SPACE, out, at);
-    text::number(terminated as u64, end, out, at)
+    let at = text::number(terminated as u64, SPACE, out, at);
+    text::number(lapsed as u64, end, out, at)
 }
 
-// A section's row: code, delivered, terminated, sum of its margins (01, Program, 1).
+// A section's row: code, delivered, terminated, lapsed, sum of its margins (01, Program, 1; 02, a, 4).
 fn section(
     codes: &[u8],
     i: usize,
     delivered: u32,
     terminated: u32,
+    lapsed: u32,
     sum: i64,
     out: &mut [u8],
     at: usize,
 ) -> usize
     requires { ⌜ (length (now codes) ≡ 896) × (i < 128) ⌝ }
-    requires { ⌜ at + length (sectionRowOf (now codes) i delivered terminated sum) ≤ length (now out) ⌝ }
-    ensures { λ r. ⌜ Laid (now (out .entry)) at (sectionRowOf (now (codes .entry)) i delivered terminated sum) (now (out .exit)) r ⌝ }
+    requires { ⌜ at + length (sectionRowOf (now codes) i delivered terminated lapsed sum) ≤ length (now out) ⌝ }
+    ensures { λ r. ⌜ Laid (now (out .entry)) at (sectionRowOf (now (codes .entry)) i delivered terminated lapsed sum) (now (out .exit)) r ⌝ }
 {
-    let at = lots(codes, i, delivered, terminated, SPACE, out, at);
+    let at = lots(codes, i, delivered, terminated, lapsed, SPACE, out, at);
     text::whole(sum, LINE_END, out, at)
 }
 
@@ -125,24 +128,34 @@ pub fn lines(
     next
 }
 
-// The rows of the sections held, by number (01, Program, 1).
+// The rows of the sections held, by number (01, Program, 1; 02, a, 4).
 pub fn sections(
     codes: &[u8],
     delivered: &[u32],
     terminated: &[u32],
+    lapsed: &[u32],
     sums: &[i64],
     held: usize,
     out: &mut [u8],
     at: usize,
 ) -> usize
-    requires { ⌜ (length (now codes) ≡ 896) × (held ≤ 128) × (held ≤ length (now delivered)) × (held ≤ length (now terminated)) × (held ≤ length (now sums)) ⌝ }
-    requires { ⌜ at + length (sectionRows (now codes) (now delivered) (now terminated) (now sums) held) ≤ length (now out) ⌝ }
-    ensures { λ r. ⌜ Laid (now (out .entry)) at (sectionRows (now (codes .entry)) (now (delivered .entry)) (now (terminated .entry)) (now (sums .entry)) held) (now (out .exit)) r ⌝ }
+    requires { ⌜ (length (now codes) ≡ 896) × (held ≤ 128) × (held ≤ length (now delivered)) × (held ≤ length (now terminated)) × (held ≤ length (now lapsed)) × (held ≤ length (now sums)) ⌝ }
+    requires { ⌜ at + length (sectionRows (now codes) (now delivered) (now terminated) (now lapsed) (now sums) held) ≤ length (now out) ⌝ }
+    ensures { λ r. ⌜ Laid (now (out .entry)) at (sectionRows (now (codes .entry)) (now (delivered .entry)) (now (terminated .entry)) (now (lapsed .entry)) (now (sums .entry)) held) (now (out .exit)) r ⌝ }
 {
     let mut next = at;
     let mut i = 0;
     while i < held {
-        next = section(codes, i, delivered[i], terminated[i], sums[i], out, next);
+        next = section(
+            codes,
+            i,
+            delivered[i],
+            terminated[i],
+            lapsed[i],
+            sums[i],
+            out,
+            next,
+        );
         i += 1;
     }
     next

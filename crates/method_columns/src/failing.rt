@@ -6,6 +6,7 @@ ghost use Rattle.rules.specs.Expiry;
 ghost use Rattle.rules.specs.Expiry.Failing;
 ghost use Rattle.rules.specs.Expiry.Passes.{sellersIn};
 ghost use Rattle.method_laws.specs.Columns.{noticeLotsIn, Below, Small};
+use crate::by_section;
 use rules::book::Book;
 use rules::book::Section;
 use value::signed;
@@ -16,15 +17,7 @@ pub fn noticed(sellers: &[u8], lots: &[u64], sums: &mut [u64])
     requires { ⌜ Below (length (now sums)) (now sellers) × Small (now lots) ⌝ }
     ensures { λ _. ⌜ ((ns : List Notice) → now (sellers .entry) ≡ sellersIn ns → now (lots .entry) ≡ noticeLotsIn ns → now (sums .exit) ≡ listed (length (now (sums .entry))) (Failing.noticed ns)) ⌝ }
 {
-    let filed = sellers.len();
-    let mut k = 0;
-    while k < filed {
-        let i = sellers[k] as usize;
-        let own = lots[k];
-        let before = sums[i];
-        sums[i] = before + own;
-        k += 1;
-    }
+    by_section::add(sellers, lots, sums);
 }
 
 // The lots of a section with so many lots in its notices where it fails, and 0 where it is sound (01, Expiry, 1.1; 01, Expiry, 1.2).

@@ -11,7 +11,7 @@ use Rattle.method_laws.proofs.Delivery
 use Rattle.method_columns.proofs.Laws.{book-columns, code-within, position-within, seller-within, stand-within, lots-within}
 use Rattle.method_steps.specs.Held.{Held}
 use Rattle.method_register.specs.Passes.{Noticed, Expiring}
-use Rattle.method_delivery.specs.Lent.{linesFor, deliveredOf, ColumnsOf}
+use Rattle.method_delivery.specs.Lent.{linesFor, remainingOf, ColumnsOf}
 
 module _ {b : Book} (book : Good b) where
   pub sections-held : length (heldSections b) ≡ b .held
@@ -54,7 +54,7 @@ module _ {b : Book} (book : Good b) where
         }
 
     -- the method runs on them (01, Expiry, 6.1)
-    pub expiring : {kept : List ℕ} → length kept ≡ b .held → kept ≡ deliveredOf b → Small kept → Expiring codes positions keys sellers stands lots kept
+    pub expiring : {kept : List ℕ} → length kept ≡ b .held → kept ≡ remainingOf b → Small kept → Expiring codes positions keys sellers stands lots kept
     expiring {kept} long is small =
         record {
           held = held-columns (length kept) long;
@@ -68,6 +68,6 @@ module _ {b : Book} (book : Good b) where
         }
 
     -- the rest of each position is terminated (01, Expiry, 1.2)
-    pub lapsed-is : {kept : List ℕ} → kept ≡ deliveredOf b → less (map natAbs positions) kept ≡ terminated (heldSections b) (deliveredOf b)
+    pub terminated-is : {kept : List ℕ} → kept ≡ remainingOf b → less (map natAbs positions) kept ≡ terminated (heldSections b) (remainingOf b)
     unfolding terminated
-    lapsed-is is = ap₂ less (ap (map natAbs) (e .positions-are) ∙ map-map natAbs positionOf (heldSections b)) is
+    terminated-is is = ap₂ less (ap (map natAbs) (e .positions-are) ∙ map-map natAbs positionOf (heldSections b)) is

@@ -1,3 +1,4 @@
 pub mod Laws
 pub mod Book
+pub mod Taken
 pub mod Limits

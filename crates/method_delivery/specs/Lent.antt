@@ -6,23 +6,23 @@ use Rattle.rules.specs.Expiry.Call as Call
 use Rattle.rules.specs.Expiry.Passes.{Pair, Line}
 use Rattle.method_laws.specs.Columns.{Filed, settlementsOf, positionsOf, keysOf}
 
--- the six lists as one
-abbrev pub lists : List ℕ → List ℕ → List ℕ → List ℕ → List ℕ → List ℕ → Call.Lists
-lists buyers elevators sellers lots delivered terminated =
-    record { buyers = buyers; elevators = elevators; sellers = sellers; lots = lots; delivered = delivered; terminated = terminated }
+-- the seven lists as one
+abbrev pub lists : List ℕ → List ℕ → List ℕ → List ℕ → List ℕ → List ℕ → List ℕ → Call.Lists
+lists buyers elevators sellers lots delivered terminated lapsed =
+    record { buyers = buyers; elevators = elevators; sellers = sellers; lots = lots; delivered = delivered; terminated = terminated; lapsed = lapsed }
 
--- the pairs and lines of a book's expiry, and what each of its sections delivers and has terminated
+-- the pairs and lines of a book's expiry, the lines kept, and what the method leaves each of its sections
 abbrev pub pairsFor : Book → List Pair
 pairsFor b = Call.pairs (heldSections b) (filedNotices b)
 
 abbrev pub linesFor : Book → List Line
 linesFor b = Call.lines (heldSections b) (filedNotices b)
 
-abbrev pub deliveredOf : Book → List ℕ
-deliveredOf b = Call.delivered (heldSections b) (filedNotices b)
+abbrev pub keptFor : Book → List Line
+keptFor b = Call.kept (heldSections b) (filedNotices b)
 
-abbrev pub terminatedOf : Book → List ℕ
-terminatedOf b = Call.terminated (heldSections b) (deliveredOf b)
+abbrev pub remainingOf : Book → List ℕ
+remainingOf b = Call.remaining (heldSections b) (filedNotices b)
 
 -- the columns of a book
 pub record ColumnsOf (b : Book) (codes : List ℕ) (positions : List ℤ) (keys sellers stands lots : List ℕ) : Type 0 where
@@ -31,11 +31,12 @@ pub record ColumnsOf (b : Book) (codes : List ℕ) (positions : List ℤ) (keys 
   pub keys-are : keys ≡ keysOf (heldSections b)
   pub filed : Filed (filedNotices b) sellers stands lots
 
--- the lists have room for any register and for the sections held (01, Expiry call, 1)
-pub record Room (b : Book) (buyers elevators sellers lots delivered terminated : List ℕ) : Type 0 where
+-- the lists have room for any register and for the sections held (01, Expiry call, 1; 02, a, 4)
+pub record Room (b : Book) (buyers elevators sellers lots delivered terminated lapsed : List ℕ) : Type 0 where
   pub buyers-room : 382 ≤ length buyers
   pub elevators-room : 382 ≤ length elevators
   pub sellers-room : 382 ≤ length sellers
   pub lots-room : 382 ≤ length lots
   pub delivered-room : b .held ≤ length delivered
   pub terminated-room : b .held ≤ length terminated
+  pub lapsed-room : b .held ≤ length lapsed

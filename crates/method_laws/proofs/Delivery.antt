@@ -1,5 +1,5 @@
--- The method whole: each section's lots in the register are those it delivers, no notice is drawn beyond its lots, and the lines are few.
-use Rattle.numbers.proofs.Words.{ℕ, _+_, _≤_, _<_, arith, _≡_, refl, sym, ap, ap₂, subst, _∙_, Bool, true, false, not, cond, _&&_, _||_, true≢false, List, map, inl, ⊎-elim, eqb, ltb, length, ℤ, pos, negsuc, natAbs, eqb-true, not-false, ltb-true, ltb-false, _and_, listed, entry, less, total, totalℤ, many}
+-- The method whole: each section's lots in the lines formed are those it is left with, no notice is drawn beyond its lots, and the lines are few.
+use Rattle.numbers.proofs.Words.{ℕ, _+_, _≤_, _<_, arith, _≡_, refl, sym, ap, ap₂, subst, _∙_, Bool, true, false, not, cond, _&&_, _||_, true≢false, List, map, inl, inr, _⊎_, ⊎-elim, eqb, ltb, length, ℤ, pos, negsuc, natAbs, eqb-true, not-false, ltb-true, ltb-false, _and_, listed, entry, less, total, totalℤ, many}
 use Rattle.rules.specs.declared.book.{Section.Section, Notice.Notice}
 use Rattle.numbers.proofs.Sums.{naturals}
 use Rattle.numbers.proofs.Ranges.{listed-length, less-at, total-long, sum-same, sum-both, sum-nothing, sum-under, sum-classes, sum-part, chosen-yes}
@@ -12,7 +12,7 @@ use Rattle.rules.specs.Expiry.Failing.{fails, noticed}
 use Rattle.rules.specs.Expiry.Outside.{outside}
 use Rattle.rules.specs.Expiry.Drawing.{drawn}
 use Rattle.rules.specs.Expiry.Passes.{Line, insidePass, outsidePass}
-use Rattle.rules.specs.Expiry.Call.{delivered, passes, lines, registerPlaces}
+use Rattle.rules.specs.Expiry.Call.{remaining, passes, lines, registerPlaces}
 use Rattle.method_laws.proofs.Shares.{Told}
 use Rattle.method_laws.proofs.Sides.{sideOf, allOf, Within}
 use Rattle.method_laws.proofs.Steps.{kept-even, within-kept, kept-failing, long-not-short, short-not-long}
@@ -20,7 +20,7 @@ use Rattle.method_laws.proofs.Inside.{far-within, inside-even, outside-
 use Rattle.method_laws.proofs.Drawing.{rest, drawn-section, drawn-ignored, drawn-of-short, drawn-both, drawn-within, one-split}
 use Rattle.method_laws.proofs.StageTwo.{lineLots}
 use Rattle.method_laws.proofs.Formed.{Formed, formed}
-use Rattle.method_laws.proofs.Register.{allLines, drawnFor, notice-lots, register-section}
+use Rattle.method_laws.proofs.Register.{allLines, drawnFor, buyer-lots, notice-lots, register-section}
 use Rattle.method_laws.proofs.Count.{Split, lines-few}
 
 -- a position that is neither long nor short is 0
@@ -30,9 +30,9 @@ even-position (negsuc n) long short = absurd (true≢false short)
 
 module _ (ss : List Section) (ns : List Notice) (codes : (i : ℕ) → i < length ss → sectionOf ss i .settlement < settlementCodes) (told : Told ss) (even : totalℤ (map positionOf ss) ≡ pos 0)
     (sections : (k : ℕ) → k < length ns → noticeOf ns k .section < length ss) (standing : (k : ℕ) → k < length ns → noticeOf ns k .elevator < elevators) where
-  -- what is delivered, what of it goes outside and what stays inside, and what is drawn of each notice for them
+  -- what is left of each section, what of it goes outside and what stays inside, and what is drawn of each notice for them
   abbrev kept : List ℕ
-  kept = delivered ss ns
+  kept = remaining ss ns
 
   abbrev far : List ℕ
   far = outside ss kept
@@ -53,7 +53,7 @@ module _ (ss : List Section) (ns : List Notice) (codes : (i : ℕ) → i < lengt
   far-below : (i : ℕ) → entry far i ≤ entry kept i
   far-below = far-within ss codes told kept kept-within
 
-  -- inside and outside make up what is delivered
+  -- inside and outside make up what is left
   near-far : (i : ℕ) → entry near i + entry far i ≡ entry kept i
   near-far i = omega (arith, less-at kept far i, far-below i)
 
@@ -195,8 +195,8 @@ module _ (ss : List Section) (ns : List Notice) (codes : (i : ℕ) → i < lengt
       ∙ drawn-of kept i h (omega arith)
       ∙ ap₂ (λ (u : Bool) (n : ℕ). cond u n 0) e (sym (near-far i))
 
-  -- a section's lots in the register are those that it delivers
-  pub registered : (i : ℕ) → i < length ss → lineLots (λ (l : Line). eqb (l .buyer) i || eqb (l .seller) i) (lines ss ns) ≡ entry (delivered ss ns) i
+  -- a section's lots in the lines formed are those that it is left with
+  pub registered : (i : ℕ) → i < length ss → lineLots (λ (l : Line). eqb (l .buyer) i || eqb (l .seller) i) (lines ss ns) ≡ entry (remaining ss ns) i
   registered i h =
       ap (λ (ls : List Line). lineLots (λ (l : Line). eqb (l .buyer) i || eqb (l .seller) i) ls) lines-are
       ∙ register-section ss ns near far inside beyond codes sections formed-inside formed-outside i h
@@ -204,6 +204,28 @@ module _ (ss : List Section) (ns : List Notice) (codes : (i : ℕ) → i < lengt
       (drawn-for i h true)
       (λ long short. (drawn-for i h false short, omega (arith, near-far i, kept-within i, even-position (positionOf (sectionOf ss i)) long short)))
       ∙ near-far i
+
+  -- it only buys or only sells
+  pub one-sided : (i : ℕ) → i < length ss → (lineLots (λ (l : Line). eqb (l .seller) i) (lines ss ns) ≡ 0) ⊎ (lineLots (λ (l : Line). eqb (l .buyer) i) (lines ss ns) ≡ 0)
+  one-sided i h = go (isLong p) refl
+    where
+      p : ℤ
+      p = positionOf (sectionOf ss i)
+
+      of-lines : (test : Line → Bool) → lineLots test (lines ss ns) ≡ lineLots test (allLines ss ns near far inside beyond)
+      of-lines test = ap (λ (ls : List Line). lineLots test ls) lines-are
+
+      go : (long : Bool) → isLong p ≡ long → (lineLots (λ (l : Line). eqb (l .seller) i) (lines ss ns) ≡ 0) ⊎ (lineLots (λ (l : Line). eqb (l .buyer) i) (lines ss ns) ≡ 0)
+      go true e =
+          inl
+          (of-lines (λ (l : Line). eqb (l .seller) i)
+          ∙ notice-lots ss ns near far inside beyond codes sections formed-inside formed-outside (λ (s e : ℕ). eqb s i)
+          ∙ drawn-for i h false (long-not-short p e))
+      go false e =
+          inr
+          (of-lines (λ (l : Line). eqb (l .buyer) i)
+          ∙ buyer-lots ss ns near far inside beyond codes sections formed-inside formed-outside i h
+          ∙ ap (λ (t : Bool). cond t (entry near i + entry far i) 0) e)
 
   -- what is drawn of the notices that pass a test is in the lines of their sections and standing
   pub noticed-lots : (test : ℕ → ℕ → Bool) → lineLots (λ (l : Line). test (l .seller) (l .elevator)) (lines ss ns) ≡ total (listed (length ns) (λ (k : ℕ). cond (test (noticeOf ns k .section) (noticeOf ns k .elevator)) (drawnAt k) 0))
@@ -213,7 +235,7 @@ module _ (ss : List Section) (ns : List Notice) (codes : (i : ℕ) → i < lengt
   both-within = drawn-within ss ns near kept near-below
 
   -- the lines are fewer than the delivering long sections and the drawn notices together
-  pub lines-below : 0 < length (lines ss ns) → length (lines ss ns) + 1 ≤ many (length ss) (λ (i : ℕ). isLong (positionOf (sectionOf ss i)) and ltb 0 (entry (delivered ss ns) i)) + many (length ns) (λ (k : ℕ). ltb 0 (drawnAt k))
+  pub lines-below : 0 < length (lines ss ns) → length (lines ss ns) + 1 ≤ many (length ss) (λ (i : ℕ). isLong (positionOf (sectionOf ss i)) and ltb 0 (entry (remaining ss ns) i)) + many (length ns) (λ (k : ℕ). ltb 0 (drawnAt k))
   unfolding many
   lines-below some =
       subst (λ (ls : List Line). 0 < length ls → length ls + 1 ≤ many (length ss) (λ (i : ℕ). isLong (positionOf (sectionOf ss i)) and ltb 0 (entry kept i)) + many (length ns) (λ (k : ℕ). ltb 0 (drawnAt k))) (sym lines-are)
@@ -224,7 +246,7 @@ module _ (ss : List Section) (ns : List Notice) (codes : (i : ℕ) → i < lengt
       delivering = many-same (length ss) _ _ (λ i h. ap (λ (n : ℕ). isLong (positionOf (sectionOf ss i)) && ltb 0 n) (near-far i))
 
   -- where a notice is drawn some section is short, so not all are long
-  some-short : (k : ℕ) → k < length ns → 0 < drawnAt k → many (length ss) (λ (i : ℕ). isLong (positionOf (sectionOf ss i)) and ltb 0 (entry (delivered ss ns) i)) + 1 ≤ length ss
+  some-short : (k : ℕ) → k < length ns → 0 < drawnAt k → many (length ss) (λ (i : ℕ). isLong (positionOf (sectionOf ss i)) and ltb 0 (entry (remaining ss ns) i)) + 1 ≤ length ss
   some-short k h some =
       let short : isShort (positionOf (sectionOf ss (noticeOf ns k .section))) ≡ true =
       ⊎-elim (λ (l : 0 < entry inside k). drawn-of-short ss ns near k l) (λ (l : entry inside k ≤ 0). outside-short k (omega (arith, some, l))) (below-or-not 0 (entry inside k)) in
@@ -243,5 +265,5 @@ module _ (ss : List Section) (ns : List Notice) (codes : (i : ℕ) → i < lengt
           (λ (h : 0 < drawing).
           let it = many-some (length ns) (λ (k : ℕ). ltb 0 (drawnAt k)) h in
           omega (arith, lines-below more, some-short (it .0) (it .1) (ltb-true 0 (drawnAt (it .0)) (it .2)), many-most (length ns) (λ (k : ℕ). ltb 0 (drawnAt k)), few-sections, few-notices))
-          (λ (h : drawing ≤ 0). omega (arith, h, lines-below more, many-most (length ss) (λ (i : ℕ). isLong (positionOf (sectionOf ss i)) and ltb 0 (entry (delivered ss ns) i)), few-sections))
+          (λ (h : drawing ≤ 0). omega (arith, h, lines-below more, many-most (length ss) (λ (i : ℕ). isLong (positionOf (sectionOf ss i)) and ltb 0 (entry (remaining ss ns) i)), few-sections))
           (below-or-not 0 drawing)

@@ -12,5 +12,6 @@ pub mod Register
 pub mod Count
 pub mod Inside
 pub mod Delivery
+pub mod Removal
 pub mod Columns
 pub mod Lines

@@ -4,13 +4,15 @@ use Rattle.rules.specs.declared.book.{Section.Section, Notice.Notice}
 use Rattle.numbers.proofs.Tests.{both, together, below-or-not}
 use Rattle.numbers.proofs.Lists.{every-at}
 use Rattle.numbers.proofs.Changed.{every-append, every-set, every-read}
+use Rattle.numbers.proofs.Passing.{every-passing}
 use Rattle.numbers.proofs.Orders.{counted-every}
 use Rattle.numbers.proofs.Entries.{entry-place, off-entry}
 use Rattle.numbers.proofs.Ranges.{listed-length, listed-under, less-at, getD-past}
 use Rattle.rules.specs.Book.{elevators, settlementCodes, sectionOf, noticeOf, blankNotice}
 use Rattle.rules.specs.Expiry.{lowerSectionCode, Outside.outside, Outside.inside, Drawing.drawn}
 use Rattle.rules.specs.Expiry.Passes.{Pair, Line, Pass, pairOf, withLots, sellersIn, elevatorsIn, offers, fullestBuyer, fullestElevator, fullestPair, fullestNotice, stageOne, stageTwo, pairsOf, linesOf, insidePass, outsidePass}
-use Rattle.rules.specs.Expiry.Call.{delivered, passes, lines}
+use Rattle.rules.specs.Expiry.SamePerson.{keptOf}
+use Rattle.rules.specs.Expiry.Call.{remaining, passes, lines, kept}
 use Rattle.method_laws.proofs.Elevators.{elevators-length}
 use Rattle.method_laws.proofs.Drawing.{drawn-within}
 
@@ -151,19 +153,29 @@ module _ (ss : List Section) (ns : List Notice) (most : ℕ) (sections : (k : �
   all-known : every known (lines ss ns) ≡ true
   unfolding lines passes every
   all-known =
-      let kept = delivered ss ns in
-      let near = inside ss kept in
+      let left = remaining ss ns in
+      let near = inside ss left in
       let insideAt : ℕ → Pass = insidePass ss ns near (drawn ss ns near) in
-      every-flat known (linesOf ss ns) (passes ss ns kept)
+      every-flat known (linesOf ss ns) (passes ss ns left)
       (every-append passKnown (listed settlementCodes insideAt) _
       (sym (every-read insideAt passKnown (counted 0 settlementCodes)) ∙ counted-every (λ (c : ℕ). passKnown (insideAt c)) 0 settlementCodes (λ c l h. inside-known near c))
-      (together (outside-known (outside ss kept) kept near) refl))
+      (together (outside-known (outside ss left) left near) refl))
 
-  -- each line of the register (01, Expiry, 6.3)
-  pub line-within : (i : ℕ) → i < length (lines ss ns) → Within (length ss) most (getD (lines ss ns) i (record { buyer = 0; elevator = 0; seller = 0; lots = 0 }))
-  line-within i h =
-      let l : Line = getD (lines ss ns) i (record { buyer = 0; elevator = 0; seller = 0; lots = 0 }) in
-      let buyer = both (ltb (l .buyer) (length ss)) _ (every-at known (lines ss ns) i _ all-known h) in
+  -- each line formed, and each line kept (01, Expiry, 6.3; 02, a, 3)
+  abbrev blank : Line
+  blank = record { buyer = 0; elevator = 0; seller = 0; lots = 0 }
+
+  within : (ls : List Line) → every known ls ≡ true → (i : ℕ) → i < length ls → Within (length ss) most (getD ls i blank)
+  within ls all i h =
+      let l : Line = getD ls i blank in
+      let buyer = both (ltb (l .buyer) (length ss)) _ (every-at known ls i _ all h) in
       let elevator = both (ltb (l .elevator) elevators) _ (buyer .1) in
       let seller = both (ltb (l .seller) (length ss)) (leb (l .lots) most) (elevator .1) in
       record { buyer = ltb-true _ _ (buyer .0); elevator = ltb-true _ _ (elevator .0); seller = ltb-true _ _ (seller .0); lots = leb-true _ _ (seller .1) }
+
+  pub line-within : (i : ℕ) → i < length (lines ss ns) → Within (length ss) most (getD (lines ss ns) i blank)
+  line-within = within (lines ss ns) all-known
+
+  pub kept-within : (i : ℕ) → i < length (kept ss ns) → Within (length ss) most (getD (kept ss ns) i blank)
+  unfolding kept keptOf
+  kept-within = within (kept ss ns) (every-passing known _ (lines ss ns) all-known)

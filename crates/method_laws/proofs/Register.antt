@@ -12,12 +12,12 @@ use Rattle.method_laws.proofs.Formed.{Formed}
 
 -- the lots of lines that pass one of two tests
 module _ (a b : Line → Bool) (ls : List Line) where
-  record Either : Type 0 where
-    left : lineLots a ls ≤ lineLots (λ (l : Line). a l || b l) ls
-    right : lineLots b ls ≤ lineLots (λ (l : Line). a l || b l) ls
-    most : lineLots (λ (l : Line). a l || b l) ls ≤ lineLots a ls + lineLots b ls
+  pub record Either : Type 0 where
+    pub left : lineLots a ls ≤ lineLots (λ (l : Line). a l || b l) ls
+    pub right : lineLots b ls ≤ lineLots (λ (l : Line). a l || b l) ls
+    pub most : lineLots (λ (l : Line). a l || b l) ls ≤ lineLots a ls + lineLots b ls
 
-  either-lots : Either
+  pub either-lots : Either
   either-lots =
       let read : (Line → Bool) → Line → ℕ = λ (test : Line → Bool) (l : Line). cond (test l) (l .lots) 0 in
       record {

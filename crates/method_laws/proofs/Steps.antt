@@ -1,4 +1,4 @@
--- Steps 1 to 4: what is delivered is even over all codes, what stays inside is even in each code, and what goes outside is even.
+-- Steps 1 to 4: what is left is even over all codes, what stays inside is even in each code, and what goes outside is even.
 use Rattle.numbers.proofs.Words.{ℕ, _+_, _-_, _≤_, _<_, arith, _≡_, refl, sym, ap, ap₂, subst, _∙_, Bool, true, false, cond, false≢true, and-true, and-false, or-false, List, [], map, ⊎-elim, ltb, length, List·getD-map, ℤ, pos, negsuc, natAbs, _+ℤ_, _-ℤ_, lt-ltb, le-ltb, ltb-true, ltb-false, listed, entry, less, total, totalℤ}
 use Rattle.rules.specs.declared.book.{Section.Section, Notice.Notice}
 use Rattle.numbers.proofs.Whole.{plus, minus, ext, sum, difference, difference-size, difference-above, difference-below}
@@ -12,7 +12,7 @@ use Rattle.rules.specs.Expiry.Failing.{fails, failing}
 use Rattle.rules.specs.Expiry.Codes.{dOfCodes, givenInCodes}
 use Rattle.rules.specs.Expiry.Across.{dOverall, codeCap, givenAcross}
 use Rattle.method_laws.specs.Giving.{codeCaps}
-use Rattle.rules.specs.Expiry.Call.{delivered}
+use Rattle.rules.specs.Expiry.Call.{remaining}
 use Rattle.method_laws.proofs.Shares.{Told, in-codes-within, across-within}
 use Rattle.method_laws.proofs.Greedy.{Given}
 use Rattle.method_laws.proofs.Across.{across-given, closed-even}
@@ -58,7 +58,7 @@ positions-sides ss =
     whole (negsuc n) = refl
 
 module _ (ss : List Section) (ns : List Notice) (codes : (i : ℕ) → i < length ss → sectionOf ss i .settlement < 64) (told : Told ss) (even : totalℤ (map positionOf ss) ≡ pos 0) where
-  -- the steps' lists, as `delivered` has them
+  -- the steps' lists, as `remaining` has them
   abbrev sizes : List ℕ
   sizes = map Expiry.size ss
 
@@ -135,9 +135,9 @@ module _ (ss : List Section) (ns : List Notice) (codes : (i : ℕ) → i < lengt
   left-open : allOf ss isShort left + (allOf ss isShort failed + allOf ss isShort inCodes) ≡ allOf ss isLong left + (allOf ss isLong failed + allOf ss isLong inCodes)
   left-open = omega (arith, made-up isLong, made-up isShort, sizes-even)
 
-  -- what is delivered, and what each has at least
-  pub kept-is : delivered ss ns ≡ less left across
-  unfolding delivered
+  -- what is left, and what each has at least
+  pub kept-is : remaining ss ns ≡ less left across
+  unfolding remaining
   kept-is = refl
 
   -- step 3 gives from the side that faces what is open
@@ -150,7 +150,7 @@ module _ (ss : List Section) (ns : List Notice) (codes : (i : ℕ) → i < lengt
           ap₂ (λ (t : Bool) (n : ℕ). cond t n 0) (faced (netOfCode ss left c) ∙ side-of-net c) (size-of-net c)
           ∙ over-other (sideOf ss mine c left) (sideOf ss other c left)
 
-  pub kept-even : allOf ss isLong (delivered ss ns) ≡ allOf ss isShort (delivered ss ns)
+  pub kept-even : allOf ss isLong (remaining ss ns) ≡ allOf ss isShort (remaining ss ns)
   unfolding Within
   kept-even = subst (λ (xs : List ℕ). allOf ss isLong xs ≡ allOf ss isShort xs) (sym kept-is) (⊎-elim above (λ h. ⊎-elim below (level h) (below-or-not x y)) (below-or-not y x))
     where
@@ -181,12 +181,12 @@ module _ (ss : List Section) (ns : List Notice) (codes : (i : ℕ) → i < lengt
       level h k =
           omega (arith, h, k, left-open, size-of-open, across-gave .needed, lots-most ss (λ (s : Section). isLong (positionOf s)) across (across-gave .long), lots-most ss (λ (s : Section). isShort (positionOf s)) across (across-gave .long), lots-less ss (λ (s : Section). isLong (positionOf s)) left across (across-within ss open′ left), lots-less ss (λ (s : Section). isShort (positionOf s)) left across (across-within ss open′ left))
 
-  pub within-kept : Within ss (delivered ss ns)
+  pub within-kept : Within ss (remaining ss ns)
   unfolding Within
   within-kept i = omega (arith, ap (λ (xs : List ℕ). entry xs i) kept-is, less-at left across i, within-left i)
 
   -- a failing section delivers nothing
-  pub kept-failing : (i : ℕ) → i < length ss → fails ss ns i ≡ true → entry (delivered ss ns) i ≡ 0
+  pub kept-failing : (i : ℕ) → i < length ss → fails ss ns i ≡ true → entry (remaining ss ns) i ≡ 0
   unfolding failing
   kept-failing i h e =
       let all : entry failed i ≡ Expiry.size (sectionOf ss i) = listed-at (length ss) (λ (j : ℕ). cond (fails ss ns j) (Expiry.size (sectionOf ss j)) 0) i 0 h ∙ ap (λ (t : Bool). cond t (Expiry.size (sectionOf ss i)) 0) e in

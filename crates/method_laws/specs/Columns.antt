@@ -1,13 +1,16 @@
 -- What the method's code reads of the sections held and of the notices filed: columns, a list of numbers each. Contracts speak of every list of sections, or of
 -- notices, that has these columns.
-use Rattle.rules.specs.Words.{ℕ, _<_, _≡_, Bool, List, map, length, ltb, ℤ, natAbs, entry, _≤_, entryℤ}
+use Rattle.rules.specs.Words.{ℕ, _<_, _≡_, Bool, List, map, length, ltb, ℤ, natAbs, cond, eqb, listed, entry, total, _≤_, entryℤ}
 use Rattle.numbers.specs.Bytes.{bigEndian}
 use Rattle.rules.specs.declared.book.{Section.Section, Notice.Notice}
 use Rattle.rules.specs.Book.{positionOf}
 use Rattle.rules.specs.Expiry.{lowerSectionCode}
 use Rattle.rules.specs.Expiry.Passes.{sellersIn, elevatorsIn}
 
--- of the sections: settlement codes and positions
+-- of the sections: participants, settlement codes and positions
+abbrev pub participantsOf : List Section → List ℕ
+participantsOf = map (λ (s : Section). s .participant)
+
 abbrev pub settlementsOf : List Section → List ℕ
 settlementsOf = map (λ (s : Section). s .settlement)
 
@@ -24,6 +27,10 @@ byKey keys i j = ltb (entry keys i) (entry keys j)
 -- of the notices: sellers and elevators (`sellersIn`, `elevatorsIn`), and lots
 abbrev pub noticeLotsIn : List Notice → List ℕ
 noticeLotsIn = map (λ (n : Notice). natAbs (n .lots .0))
+
+-- the lots of what names a section: `numbers` has the section of each of `lots` (01, Expiry, 1.1; 02, a, 4)
+abbrev pub lotsAt : List ℕ → List ℕ → ℕ → ℕ
+lotsAt numbers lots i = total (listed (length numbers) (λ (k : ℕ). cond (eqb (entry numbers k) i) (entry lots k) 0))
 
 -- what contracts ask of a column: each number below another; lots within a position's limit; no more than another list has; nets within 128 positions
 abbrev pub Below : ℕ → List ℕ → Type 0

@@ -1,9 +1,9 @@
 -- Pairs and lines in arrays: how many there are, which is at a place, one more, and a pair with lots left.
 use Rattle.numbers.proofs.Words.{ℕ, _+_, _≤_, _<_, arith, _≡_, refl, sym, ap, _∙_, List, [], _∷_, _++_, map, length, set, length-append, length-map, length-set, List·getD-map, getD-set-same, getD-set-other, map-set-same, entry}
-use Rattle.numbers.proofs.Ranges.{listed-length, listed-at, listed-next, listed-set}
-use Rattle.rules.specs.Expiry.Passes.{Pair, Line, pairOf, withLots}
+use Rattle.numbers.proofs.Ranges.{listed-length, listed-at, listed-same, listed-next, listed-set}
+use Rattle.rules.specs.Expiry.Passes.{Pair, pairOf, withLots}
 use Rattle.method_passes.specs.declared.{pairs.Pairs.Pairs, register.Register.Register}
-use Rattle.method_passes.specs.Formed.{pairsIn, pairLeft, linesIn, Known}
+use Rattle.method_passes.specs.Formed.{pairsIn, pairLeft, lineIn, linesIn, Known}
 
 abbrev noPair : Pair
 noPair = record { buyer = 0; elevator = 0; lots = 0 }
@@ -70,26 +70,37 @@ module _ (ps : List Pair) (p left : ℕ) where
   known-left sections known =
       record { few = omega (arith, left-length, known .few); buyer = λ k h. omega (arith, left-buyer k, known .buyer k (omega (arith, h, left-length))) }
 
-module _ (g : Register) where
-  abbrev lineIn : ℕ → Line
-  lineIn k = record { buyer = entry (g .buyers) k; elevator = entry (g .elevators) k; seller = entry (g .sellers) k; lots = entry (g .lots) k }
+pub lines-count : (g : Register) → length (linesIn g) ≡ g .count
+lines-count g = listed-length (g .count) (lineIn g)
 
-  pub lines-count : length (linesIn g) ≡ g .count
-  lines-count = listed-length (g .count) lineIn
+-- a register has its places
+pub record Places (g : Register) : Type 0 where
+  pub buyers : length (g .buyers) ≡ 382
+  pub elevators : length (g .elevators) ≡ 382
+  pub sellers : length (g .sellers) ≡ 382
+  pub lots : length (g .lots) ≡ 382
 
-  -- one line more is written
-  pub lines-more : (buyer elevator seller lots : ℕ) → g .count < 382 → length (g .buyers) ≡ 382 → length (g .elevators) ≡ 382 → length (g .sellers) ≡ 382 → length (g .lots) ≡ 382
-      → linesIn (record { buyers = set (g .buyers) (g .count) buyer; elevators = set (g .elevators) (g .count) elevator; sellers = set (g .sellers) (g .count) seller; lots = set (g .lots) (g .count) lots; count = g .count + 1 })
-      ≡ linesIn g ++ (record { buyer = buyer; elevator = elevator; seller = seller; lots = lots } ∷ [])
-  lines-more buyer elevator seller lots room e e′ e″ e‴ =
+-- a line is written past the last one: it is one line more where it is counted, and none where it is not
+module _ (g : Register) (buyer elevator seller lots : ℕ) where
+  abbrev pub written : ℕ → Register
+  written count = record { buyers = set (g .buyers) (g .count) buyer; elevators = set (g .elevators) (g .count) elevator; sellers = set (g .sellers) (g .count) seller; lots = set (g .lots) (g .count) lots; count = count }
+
+  before-it : (count i : ℕ) → i < g .count → lineIn (written count) i ≡ lineIn g i
+  before-it count i l =
       let n = g .count in
-      listed-next n lineIn _ _
-      (λ i l.
       let other : i ≡ n → ⊥ = λ e. absurd (omega (arith, l, e)) in
-      rw (getD-set-other (g .buyers) n i buyer 0 other, getD-set-other (g .elevators) n i elevator 0 other, getD-set-other (g .sellers) n i seller 0 other, getD-set-other (g .lots) n i lots 0 other))
+      rw (getD-set-other (g .buyers) n i buyer 0 other, getD-set-other (g .elevators) n i elevator 0 other, getD-set-other (g .sellers) n i seller 0 other, getD-set-other (g .lots) n i lots 0 other)
+
+  pub lines-more : g .count < 382 → Places g → linesIn (written (g .count + 1)) ≡ linesIn g ++ (record { buyer = buyer; elevator = elevator; seller = seller; lots = lots } ∷ [])
+  lines-more room places =
+      let n = g .count in
+      listed-next n (lineIn g) _ _ (before-it (n + 1))
       (rw (
-        getD-set-same (g .buyers) n buyer 0 (omega (arith, room, e)),
-        getD-set-same (g .elevators) n elevator 0 (omega (arith, room, e′)),
-        getD-set-same (g .sellers) n seller 0 (omega (arith, room, e″)),
-        getD-set-same (g .lots) n lots 0 (omega (arith, room, e‴)),
+        getD-set-same (g .buyers) n buyer 0 (omega (arith, room, places .buyers)),
+        getD-set-same (g .elevators) n elevator 0 (omega (arith, room, places .elevators)),
+        getD-set-same (g .sellers) n seller 0 (omega (arith, room, places .sellers)),
+        getD-set-same (g .lots) n lots 0 (omega (arith, room, places .lots)),
       ))
+
+  pub lines-still : linesIn (written (g .count)) ≡ linesIn g
+  lines-still = listed-same (g .count) _ _ (before-it (g .count))

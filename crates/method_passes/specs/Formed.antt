@@ -12,9 +12,12 @@ pairsIn ps = listed (ps .count) (λ (k : ℕ). record { buyer = entry (ps .buyer
 abbrev pub pairLeft : List Pair → ℕ → ℕ → List Pair
 pairLeft ps p left = set ps p (withLots (pairOf ps p) left)
 
--- the lines formed
+-- the line at a place, and the lines formed
+abbrev pub lineIn : Register → ℕ → Line
+lineIn g k = record { buyer = entry (g .buyers) k; elevator = entry (g .elevators) k; seller = entry (g .sellers) k; lots = entry (g .lots) k }
+
 abbrev pub linesIn : Register → List Line
-linesIn g = listed (g .count) (λ (k : ℕ). record { buyer = entry (g .buyers) k; elevator = entry (g .elevators) k; seller = entry (g .sellers) k; lots = entry (g .lots) k })
+linesIn g = listed (g .count) (lineIn g)
 
 -- the next line: of which pair and of which notice, and how much (01, Expiry, 6.3)
 abbrev pub nextChoice : (ℕ → ℕ → Bool) → List ℕ → List ℕ → List Pair → List ℕ → Choice

@@ -7,7 +7,7 @@ use Rattle.rules.specs.declared.book.{Section.Section, Notice.Notice}
 use Rattle.rules.specs.Book.{settlementCodes, sectionOf}
 use Rattle.rules.specs.Expiry.{isLong, Outside.outside, Drawing.drawn}
 use Rattle.rules.specs.Expiry.Passes.{Line, Pass, pairsOf, linesOf, insidePass, outsidePass}
-use Rattle.rules.specs.Expiry.Call.{passes, delivered, pairs, lines}
+use Rattle.rules.specs.Expiry.Call.{passes, remaining, pairs, lines}
 use Rattle.method_laws.specs.Columns.{Columns, byKey}
 use Rattle.method_laws.proofs.Columns.{code-at, position-at, codes-long, seller-at, sellers-long, stands-long}
 use Rattle.method_passes.specs.declared.{pass.Formed.Formed}
@@ -97,7 +97,7 @@ module _ {ss : List Section} {ns : List Notice} {codes : List ℕ} {positions : 
       ∙ listed-same (length ss) _ _ (λ i h. ap (λ (z : ℤ). cond (isLong z) (entry far i) 0) (position-at ss (columns .positions-are) i)))
 
   -- all of them
-  passes-are : listed settlementCodes (insidePass ss ns near inside) ++ (outsidePass ss far beyond ∷ []) ≡ passes ss ns (delivered ss ns)
+  passes-are : listed settlementCodes (insidePass ss ns near inside) ++ (outsidePass ss far beyond ∷ []) ≡ passes ss ns (remaining ss ns)
   unfolding passes
   passes-are =
       let near-is = s .near-is ∙ ap (less kept) (s .far-is) in
@@ -109,7 +109,7 @@ module _ {ss : List Section} {ns : List Notice} {codes : List ℕ} {positions : 
 
   -- what all of them form, where each forms the same by its columns
   module _ {B : Type 0} (by of : Pass → List B) (same : (p : Pass) → length (p .buyers) ≡ length ss → by p ≡ of p) where
-    formed : flatMap by (inCodes codes sellers buyers inside) ++ by (outsideOf positions far beyond) ≡ flatMap of (passes ss ns (delivered ss ns))
+    formed : flatMap by (inCodes codes sellers buyers inside) ++ by (outsideOf positions far beyond) ≡ flatMap of (passes ss ns (remaining ss ns))
     formed =
         ap₂ (λ (xs ys : List B). xs ++ ys)
         (flat-same by of (inCode codes sellers buyers inside) (insidePass ss ns near inside)

@@ -4,7 +4,7 @@ use Rattle.rules.specs.declared.book.{Section.Section, Notice.Notice}
 use Rattle.rules.specs.Book.{settlementCodes}
 use Rattle.rules.specs.Expiry.{isLong, Outside.outside}
 use Rattle.rules.specs.Expiry.Passes.{Pair, Line, Pass, sellersIn}
-use Rattle.rules.specs.Expiry.Call.{delivered, lines}
+use Rattle.rules.specs.Expiry.Call.{remaining, lines}
 use Rattle.method_laws.specs.Columns.{Columns, Filed, positionsOf, noticeLotsIn, byKey}
 use Rattle.method_steps.specs.Held.{Held}
 use Rattle.method_passes.specs.Formed.{passPairs, passLines, Sold}
@@ -45,7 +45,7 @@ pub record Read (codes keys buyers sellers stands drawn : List ℕ) : Type 0 whe
 pub record Delivers (ss : List Section) (ns : List Notice) (codes : List ℕ) (positions : List ℤ) (keys sellers stands lots kept : List ℕ) : Type 0 where
   pub columns : Columns ss codes positions keys
   pub filed : Filed ns sellers stands lots
-  pub kept-is : kept ≡ delivered ss ns
+  pub kept-is : kept ≡ remaining ss ns
 
 -- the notices of so many sections that are drawn, within the limits of a good book
 pub record Noticed (sellers lots : List ℕ) (sections : ℕ) : Type 0 where

@@ -123,7 +123,7 @@ fn run_passes(
     pass::run(keys, far, sellers, stands, &mut beyond[..filed], formed)
 }
 
-// The register of what is delivered, and how many pairs were formed (01, Expiry, 6.1; 01, Expiry, 7; 01, Forms, 2).
+// The lines formed of what is left, and how many pairs were formed (01, Expiry, 6.1; 01, Expiry, 7; 01, Forms, 2).
 pub fn form(
     codes: &[u8],
     positions: &[i64],

@@ -26,6 +26,9 @@ module _ (xs : List ℕ) where
 pub noughts-at : (n i : ℕ) → entry (replicate n 0) i ≡ 0
 noughts-at n = none-past (replicate n 0) (λ i h. getD-replicate n i 0 0 (omega (arith, h, length-replicate {A = ℕ} n 0)))
 
+pub noughts-known : {xs : List ℕ} (n : ℕ) → xs ≡ replicate n 0 → (i : ℕ) → entry xs i ≡ 0
+noughts-known n e i = ap (λ (ys : List ℕ). entry ys i) e ∙ noughts-at n i
+
 pub noughts-total : (n : ℕ) → total (replicate n 0) ≡ 0
 noughts-total n = none-total (replicate n 0) (λ i h. noughts-at n i)
 

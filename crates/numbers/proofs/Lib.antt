@@ -2,6 +2,7 @@ pub mod Words
 pub mod Tests
 pub mod Under
 pub mod Lists
+pub mod Passing
 pub mod Changed
 pub mod Whole
 pub mod Sums

@@ -19,7 +19,7 @@ pub use mir.Syntax.{Width, w64}
 pub use mir.Facts.{toZ-ofZ, toZ-pos}
 pub use lib.Signed.{leZ, ltZ, mag, nonNeg}
 pub use native.Mathlib.Numerals.{add-one}
-unfoldable pub use Rattle.numbers.specs.Lists.{Every, apart, ascending, counted, every, largest, largestFrom, ordered, placed, put, some}
+unfoldable pub use Rattle.numbers.specs.Lists.{Every, apart, ascending, counted, every, largest, largestFrom, ordered, passing, placed, put, some}
 pub use Rattle.numbers.specs.Lists.{_and_, entry, entryℤ, less, listed, over}
 unfoldable pub use Rattle.numbers.specs.Sums.{gathered, many}
 pub use Rattle.numbers.specs.Sums.{total, totalℤ}

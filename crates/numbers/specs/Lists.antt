@@ -21,6 +21,11 @@ unfoldable pub some : {A : Type 0} → (A → Bool) → List A → Bool
 some test [] = false
 some test (x ∷ xs) = test x || some test xs
 
+-- the entries that pass the test, in their order
+unfoldable pub passing : {A : Type 0} → (A → Bool) → List A → List A
+passing test [] = []
+passing test (x ∷ xs) = cond (test x) (x ∷ passing test xs) (passing test xs)
+
 -- no two entries are alike
 unfoldable pub apart : {A : Type 0} → (A → A → Bool) → List A → Bool
 apart alike [] = true
@@ -89,5 +94,5 @@ largest earlier xs = largestFrom earlier xs 0 0 xs
 
 -- every definition above, unfolded at once
 unfoldable pub computed : Unit {0}
-unfolding every some apart Every ascending counted put placed ordered largestFrom largest
+unfolding every some passing apart Every ascending counted put placed ordered largestFrom largest
 computed = tt

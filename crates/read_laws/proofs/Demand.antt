@@ -6,10 +6,11 @@ use Rattle.numbers.proofs.Lists.{empty}
 use Rattle.numbers.proofs.Sums.{wholes}
 use Rattle.numbers.proofs.Ranges.{sum-same}
 use Rattle.rules.specs.Units.{worth}
+use Rattle.rules.specs.Book.{heldSections, filedNotices}
 use Rattle.rules.specs.Calls.{handedOut, newSection, withSection, sectionAnswer, traded, tradeAnswer, sessionAnswer, afterCondition, conditionAnswer, afterNotice, noticeAnswer, first}
-use Rattle.rules.specs.Expiry.Call.{Lists, afterExpiry, expiryRefusals, expiryAnswer, expiryLists, dayLast}
+use Rattle.rules.specs.Expiry.Call.{Lists, lines, afterExpiry, expiryRefusals, expiryAnswer, expiryLists, dayLast}
 use Rattle.rules.specs.File.{Lent, readWhole, fileAnswer, fileLists}
-use Rattle.rules.specs.History.{Single, section, trade, session, condition, notice, expiry, single, answerOf, bookAfter, Accepted, accepted, Trade, tradeOf, trades, Session, sessionOf, sessions, Register, registerOf, registers, holds, anySession, upToLast, lastValue, net, entered, lotsWhere, Delivered, DemandThree, Holds}
+use Rattle.rules.specs.History.{Single, section, trade, session, condition, notice, expiry, single, answerOf, bookAfter, Accepted, accepted, Trade, tradeOf, trades, Session, sessionOf, sessions, Register, registerOf, registers, holds, anySession, upToLast, lastValue, net, entered, registerLines, drawnLots, Delivered, DemandThree, Holds, lineLimit}
 use Rattle.book_laws.proofs.Answers.{written, first-none}
 use Rattle.book_laws.proofs.Blocks.{singles-history}
 use Rattle.read_laws.specs.ReadCalls.{startOf, callsOf, AllAccepted, ReadByCalls, ReadIsCalls}
@@ -88,16 +89,30 @@ unfolding Every
 every-right P [] ys h = h
 every-right P (x ∷ xs) ys h = every-right P xs ys (h .1)
 
-last-register : (P : Register → Type 0) (earlier : List Accepted) (b : Book) (ls : Lists) → Every P (registers (earlier ++ (record { book = b; call = expiry ls } ∷ []))) → P (record { book = b; lists = expiryLists b ls; lines = expiryAnswer b ls .lines })
+-- what an expiry leaves (01, Calls, 5 and 7; 02, a, 6)
+abbrev expiredWith : Book → Lists → Register
+expiredWith b ls = record { book = b; lists = expiryLists b ls; formed = lines (heldSections b) (filedNotices b); lines = expiryAnswer b ls .lines; kept = expiryAnswer b ls .kept }
+
+last-register : (P : Register → Type 0) (earlier : List Accepted) (b : Book) (ls : Lists) → Every P (registers (earlier ++ (record { book = b; call = expiry ls } ∷ []))) → P (expiredWith b ls)
 unfolding flatMap registerOf Every
 last-register P [] b ls h = h .0
 last-register P (a ∷ later) b ls h = last-register P later b ls (every-right P (registerOf (a .book) (a .call)) _ h)
 
 -- the expired mark is nothing to what is delivered (01, Expiry call, 3)
-expired-delivered : (all : List Trade) (b : Book) (ls : Lists) (n : ℕ) → Delivered all (record { book = b; lists = ls; lines = n }) → Delivered all (record { book = afterExpiry b; lists = ls; lines = n })
-unfolding afterExpiry lotsWhere
-expired-delivered all b ls n d =
-    record { made-up = d .made-up; registered = d .registered; drawn-within = d .drawn-within; lines-within = d .lines-within }
+abbrev marked : Register → Register
+marked g = record { book = afterExpiry (g .book); lists = g .lists; formed = g .formed; lines = g .lines; kept = g .kept }
+
+expired-delivered : (all : List Trade) (g : Register) → Delivered all g → Delivered all (marked g)
+unfolding afterExpiry registerLines drawnLots lineLimit
+expired-delivered all g d =
+    record {
+      made-up = d .made-up;
+      register-is = d .register-is;
+      counted-all = d .counted-all;
+      registered = d .registered;
+      drawn-within = d .drawn-within;
+      lines-within = d .lines-within;
+    }
 
 -- an accepted expiry was given a book with no trade since its session (01, Expiry call, 1)
 no-trade-since : (b : Book) (ls : Lists) → first (expiryRefusals b ls) ≡ 0 → b .trades ≡ 0
@@ -132,7 +147,7 @@ module _ (three : DemandThree) (file : List ℕ) (lent : Lent) (e : readWhole fi
   unfolding DemandThree
   three-holds = subst Holds (singles-history (callsOf file lent) start) (three _ _ _ (r .opening) (map single (callsOf file lent)))
 
-  expired : Delivered (trades told) (record { book = before; lists = expiryLists before (lent .lists); lines = expiryAnswer before (lent .lists) .lines })
+  expired : Delivered (trades told) (expiredWith before (lent .lists))
   expired =
       let told-is = ap (accepted start) (r .named) ∙ accepted-last earlier start (expiry (lent .lists)) all in
       last-register (Delivered (trades told)) (accepted start earlier) before (lent .lists)
@@ -145,7 +160,7 @@ module _ (three : DemandThree) (file : List ℕ) (lent : Lent) (e : readWhole fi
       (ap (λ (b : Book). b .trades) (sym (r .book) ∙ book-is) ∙ no-trade-since before (lent .lists) expiry-accepted)
 
   holds-of : (let run = readWhole file lent in FileHolds file lent (fileAnswer run) (fileLists run lent))
-  unfolding fileAnswer
+  unfolding fileAnswer afterExpiry
   holds-of =
       let run = readWhole file lent in
       let s = whole-sound file lent e in
@@ -154,8 +169,15 @@ module _ (three : DemandThree) (file : List ℕ) (lent : Lent) (e : readWhole fi
         sums-even = sum-same _+ℤ_ (pos 0) wholes (run .book .held) _ _ (sums-handed file lent e) ∙ longer-total (run .sums) (run .book .held) (s .short) ∙ s .even;
         delivered =
             subst (Delivered (trades told))
-            (λ k. record { book = sym book-is k; lists = sym (r .lists) k; lines = sym (ap (λ (a : FileAnswer). a .lines) (r .answer)) k })
-            (expired-delivered (trades told) before _ _ expired);
+            (λ k.
+            record {
+              book = sym book-is k;
+              lists = sym (r .lists) k;
+              formed = ap (λ (b : Book). lines (heldSections b) (filedNotices b)) (sym book-is) k;
+              lines = sym (ap (λ (a : FileAnswer). a .lines) (r .answer)) k;
+              kept = sym (ap (λ (a : FileAnswer). a .kept) (r .answer)) k;
+            })
+            (expired-delivered (trades told) (expiredWith before (lent .lists)) expired);
         telescoped = λ i h.
             r .sums i h
             ∙ three-holds .telescoped i

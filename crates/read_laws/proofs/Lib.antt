@@ -4,3 +4,4 @@ pub mod Read
 pub mod Along
 pub mod Calls
 pub mod Demand
+pub mod OldBoxes

@@ -33,13 +33,15 @@ fn main() -> ExitCode {
         calls,
         refused,
         expiries,
+        removals,
         blocks,
         in_blocks,
         uneven,
     } = tally;
     println!("{count} files hold in {seconds:.1} s: {accepted} accepted, with the writer's bytes");
     println!(
-        "{lists} lists of calls hold: {calls} calls, {refused} refused, {expiries} lists with an expiry"
+        "{lists} lists of calls hold: {calls} calls, {refused} refused, \
+         {expiries} lists with an expiry, {removals} of them with a removed line"
     );
     println!(
         "of these {in_blocks} trades in {blocks} blocks, which come to the same; {uneven} more blocks refused"
@@ -54,6 +56,7 @@ struct Tally {
     calls: usize,
     refused: usize,
     expiries: u64,
+    removals: u64,
     blocks: usize,
     in_blocks: usize,
     uneven: usize,
@@ -89,6 +92,7 @@ impl Tally {
             .filter(|step| step.answer.is_err())
             .count();
         self.expiries += u64::from(history.has_expiry());
+        self.removals += u64::from(history.has_removed_line());
         Ok(())
     }
 

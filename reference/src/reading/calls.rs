@@ -16,15 +16,17 @@ use crate::reading::value;
 pub const REGISTER: usize = 382;
 
 /// "The answer of expiry carries the pairs formed and the lines formed, over
-/// all passes."
+/// all passes", "and beside them the lines kept" (document 02, a).
 #[derive(Clone, Copy, Debug, Default, PartialEq, Eq)]
 pub struct Counts {
     pub pairs: usize,
     pub lines: usize,
+    pub kept: usize,
 }
 
 /// The lists lent to an expiry: "the four register lists (buyer's number,
-/// elevator, seller's number, lots)", the delivered and the terminated list.
+/// elevator, seller's number, lots)", the delivered and the terminated list, and
+/// "a third section list, "lapsed"" (document 02, a).
 #[derive(Debug)]
 pub struct ExpiryLists<'a> {
     pub buyers: &'a mut [u8],
@@ -33,6 +35,7 @@ pub struct ExpiryLists<'a> {
     pub lots: &'a mut [u32],
     pub delivered: &'a mut [u32],
     pub terminated: &'a mut [u32],
+    pub lapsed: &'a mut [u32],
 }
 
 impl ExpiryLists<'_> {
@@ -42,15 +45,17 @@ impl ExpiryLists<'_> {
         sections.min(self.elevators.len()).min(self.lots.len())
     }
 
-    /// The length of the shorter list by section, which 24 judges.
+    /// The length of the shortest list by section, which 24 judges: the lapsed
+    /// one "falls under refusal 24 like the other two" (document 02, a).
     pub fn section_room(&self) -> usize {
-        self.delivered.len().min(self.terminated.len())
+        let both = self.delivered.len().min(self.terminated.len());
+        both.min(self.lapsed.len())
     }
 
-    /// Writes the register from the start of its lists and an entry for each
-    /// section held. "Entries past those used remain."
+    /// Writes the lines kept from the start of the register lists and an entry
+    /// for each section held. "Entries past those used remain."
     pub fn write(&mut self, settlement: &Settlement) {
-        for (i, line) in settlement.lines().enumerate() {
+        for (i, line) in settlement.register.iter().enumerate() {
             self.buyers[i] = u8::try_from(line.buyer).expect("a section number");
             self.elevators[i] = line.elevator;
             self.sellers[i] = u8::try_from(line.seller).expect("a section number");
@@ -59,6 +64,7 @@ impl ExpiryLists<'_> {
         let sections = settlement.delivered.len();
         self.delivered[..sections].copy_from_slice(&settlement.delivered);
         self.terminated[..sections].copy_from_slice(&settlement.terminated);
+        self.lapsed[..sections].copy_from_slice(&settlement.lapsed);
     }
 }
 
@@ -68,6 +74,7 @@ impl Settlement {
         Counts {
             pairs: self.pairs(),
             lines: self.lines().count(),
+            kept: self.register.len(),
         }
     }
 }
@@ -272,7 +279,8 @@ impl Book {
 
     /// Expiry: "5; 22 the last session is none or evening, or a trade followed
     /// it; 23 any of the four register lists [...] shorter than 382; 24 the
-    /// delivered or terminated list shorter than the sections held."
+    /// delivered or terminated list shorter than the sections held", or the
+    /// lapsed one.
     pub fn expiry_faults(&self, register_room: usize, section_room: usize) -> Vec<Refusal> {
         self.faults(|| {
             let after_day = self.last_session == SessionKind::Day && self.trades_since == 0;

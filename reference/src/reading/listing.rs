@@ -1,4 +1,5 @@
-//! The listing of a file (document 01, "The program reads the file").
+//! The listing of a file (document 01, "The program reads the file"; document
+//! 02, a, its column after terminated).
 
 use crate::reading::book::{Book, SECTIONS};
 use crate::reading::calls::{ExpiryLists, REGISTER};
@@ -14,6 +15,7 @@ pub struct Lists {
     pub lots: Vec<u32>,
     pub delivered: Vec<u32>,
     pub terminated: Vec<u32>,
+    pub lapsed: Vec<u32>,
     pub margin_sums: Vec<i64>,
 }
 
@@ -27,6 +29,7 @@ impl Lists {
             lots: vec![0; REGISTER],
             delivered: vec![0; SECTIONS],
             terminated: vec![0; SECTIONS],
+            lapsed: vec![0; SECTIONS],
             margin_sums: vec![0; SECTIONS],
         }
     }
@@ -41,6 +44,7 @@ impl Lists {
                 lots: &mut self.lots,
                 delivered: &mut self.delivered,
                 terminated: &mut self.terminated,
+                lapsed: &mut self.lapsed,
             },
             margin_sums: &mut self.margin_sums,
         }
@@ -53,29 +57,38 @@ pub fn listing(file: &[u8]) -> String {
     let mut lists = Lists::full();
     let reading = read(file, lists.lend());
     match reading.answer {
-        Ok(counts) => accepted(&reading, counts.lines, &lists),
+        Ok(counts) => accepted(&reading, counts.kept, &lists),
         Err(refusal) => format!("refused {} {}\n", refusal.number(), reading.place),
     }
 }
 
-/// "a row per section by number: code, delivered, terminated, sum of its
-/// margins."
-fn accepted(reading: &Reading, lines: usize, lists: &Lists) -> String {
-    let mut text = register(&reading.book, lines, lists);
-    for (i, section) in reading.book.sections().iter().enumerate() {
-        let (code, delivered, terminated) = (section.code, lists.delivered[i], lists.terminated[i]);
-        let margins = lists.margin_sums[i];
-        writeln!(text, "{code} {delivered} {terminated} {margins}").expect("a string takes all");
+/// The register, and "a row per section by number: code, delivered, terminated",
+/// then lapsed, "sum of its margins."
+fn accepted(reading: &Reading, kept: usize, lists: &Lists) -> String {
+    let mut text = register(&reading.book, kept, lists);
+    for (lots, margins) in section_lots(&reading.book, lists).zip(&lists.margin_sums) {
+        writeln!(text, "{lots} {margins}").expect("a string takes all");
     }
     text
 }
 
+/// The code of each section held, its delivered, terminated and lapsed lots.
+pub(super) fn section_lots(book: &Book, lists: &Lists) -> impl Iterator<Item = String> {
+    let sections = book.sections().iter().enumerate();
+    sections.map(|(i, section)| {
+        let (code, delivered, terminated) = (section.code, lists.delivered[i], lists.terminated[i]);
+        let lapsed = lists.lapsed[i];
+        format!("{code} {delivered} {terminated} {lapsed}")
+    })
+}
+
 /// "prints `register` and the line count; a row per line: buyer's code,
-/// elevator, seller's code, lots, tonnes".
-pub(super) fn register(book: &Book, lines: usize, lists: &Lists) -> String {
+/// elevator, seller's code, lots, tonnes". The lines are those kept, "which are
+/// now the register and stand in the listing's first row" (document 02, a).
+pub(super) fn register(book: &Book, kept: usize, lists: &Lists) -> String {
     let sections = book.sections();
-    let mut text = format!("register {lines}\n");
-    for i in 0..lines {
+    let mut text = format!("register {kept}\n");
+    for i in 0..kept {
         let buyer = sections[usize::from(lists.buyers[i])].code;
         let seller = sections[usize::from(lists.sellers[i])].code;
         let (elevator, lots) = (lists.elevators[i], lists.lots[i]);

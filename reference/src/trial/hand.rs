@@ -1,5 +1,6 @@
 //! Document 01's "Checked by hand" as files: the worked example, and every
-//! claim without a star. What each prints follows from the document's words.
+//! claim without a star. What each prints follows from the document's words, with
+//! the column of noughts that document 02, a, adds.
 
 use super::generate::Contract;
 use crate::reading::book::SectionCode;
@@ -55,10 +56,10 @@ register 3
 A000001 0 A000002 2 50
 A000001 4 B000001 2 50
 A000001 1 B000001 1 25
-A000001 5 0 2500000
-A000002 2 0 -1000000
-B000001 3 3 -2250000
-C000001 0 3 750000
+A000001 5 0 0 2500000
+A000002 2 0 0 -1000000
+B000001 3 3 0 -2250000
+C000001 0 3 0 750000
 ",
     }
 }
@@ -71,17 +72,17 @@ pub fn unstarred() -> Vec<Case> {
         kopeck(
             "K 1: V(49,999) = 0",
             &[49_999],
-            "register 0\nA000001 0 1 -1\nA000002 0 1 1\n",
+            "register 0\nA000001 0 1 0 -1\nA000002 0 1 0 1\n",
         ),
         kopeck(
             "K 1: V(50,000) = 1",
             &[50_000],
-            "register 0\nA000001 0 1 0\nA000002 0 1 0\n",
+            "register 0\nA000001 0 1 0 0\nA000002 0 1 0 0\n",
         ),
         kopeck(
             "trap: with K 1, 49,999 to 50,000 pays 1, not 0",
             &[49_999, 50_000, 50_000],
-            "register 0\nA000001 0 1 0\nA000002 0 1 0\n",
+            "register 0\nA000001 0 1 0 0\nA000002 0 1 0 0\n",
         ),
         smallest_first(),
         split(),
@@ -152,10 +153,10 @@ fn smallest_first() -> Case {
         prints: "\
 register 1
 A000004 0 A000002 2 20
-A000001 0 2 0
-A000002 2 1 0
-A000003 0 1 0
-A000004 2 0 0
+A000001 0 2 0 0
+A000002 2 1 0 0
+A000003 0 1 0 0
+A000004 2 0 0 0
 ",
     }
 }
@@ -184,9 +185,9 @@ fn split() -> Case {
 register 2
 A000001 3 A000002 1 10
 A000001 5 B000001 2 20
-A000001 3 0 0
-A000002 1 0 0
-B000001 2 0 0
+A000001 3 0 0 0
+A000002 1 0 0 0
+B000001 2 0 0 0
 ",
     }
 }

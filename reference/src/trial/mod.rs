@@ -10,5 +10,6 @@ pub mod hand;
 pub mod input;
 pub mod random;
 pub mod reach;
+pub mod removal;
 pub mod rows;
 pub mod running;

@@ -1,6 +1,7 @@
 //! Books and files that several tests use, and programs that they run.
 #![allow(dead_code)]
 
+pub mod expiry_rows;
 pub mod programs;
 
 use wheat_delivery::reading::book::{Book, Notice, Section, SessionKind};
@@ -20,15 +21,16 @@ pub fn opened() -> Book {
 /// A section for `book_of`: settlement code, section code, position, sound.
 pub type Row<'a> = (u8, &'a str, i64, bool);
 
-/// A book ready for its expiry. A sound short section has the notices given or,
-/// if there are none, one of all its lots at elevator 0.
+/// A book ready for its expiry, each section another person's. A sound short
+/// section has the notices given or, if there are none, one of all its lots at
+/// elevator 0.
 pub fn book_of(rows: &[Row], notices: &[(u8, u8, u32)]) -> Book {
     let mut book = opened();
     for &(settlement_code, text, position, sound) in rows {
         book.sections[book.sections_held] = Section {
             settlement_code,
             code: code(text),
-            participant: 7,
+            participant: 7 + book.sections_held as u32,
             seller: true,
             condition_met: sound,
             position,
@@ -70,6 +72,7 @@ pub struct Expired {
     pub register: Vec<(u8, u8, u8, u32)>,
     pub delivered: Vec<u32>,
     pub terminated: Vec<u32>,
+    pub lapsed: Vec<u32>,
 }
 
 /// The expiry of a copy of the book.
@@ -87,9 +90,10 @@ pub fn expire(book: &Book) -> Result<Expired, Refusal> {
     };
     Ok(Expired {
         counts,
-        register: (0..counts.lines).map(line).collect(),
+        register: (0..counts.kept).map(line).collect(),
         delivered: lists.delivered[..book.sections_held].to_vec(),
         terminated: lists.terminated[..book.sections_held].to_vec(),
+        lapsed: lists.lapsed[..book.sections_held].to_vec(),
     })
 }
 
@@ -99,16 +103,21 @@ pub struct Lent {
     pub lots: Vec<u32>,
     pub delivered: Vec<u32>,
     pub terminated: Vec<u32>,
+    pub lapsed: Vec<u32>,
 }
 
 impl Lent {
-    pub fn new(register: [usize; 4], delivered: usize, terminated: usize) -> Lent {
+    /// The lengths of the four register lists, and of delivered, terminated and
+    /// lapsed.
+    pub fn new(register: [usize; 4], sections: [usize; 3]) -> Lent {
         let [buyers, elevators, sellers, lots] = register;
+        let [delivered, terminated, lapsed] = sections;
         Lent {
             bytes: [vec![201; buyers], vec![202; elevators], vec![203; sellers]],
             lots: vec![204; lots],
             delivered: vec![205; delivered],
             terminated: vec![206; terminated],
+            lapsed: vec![207; lapsed],
         }
     }
 
@@ -121,6 +130,7 @@ impl Lent {
             lots: &mut self.lots,
             delivered: &mut self.delivered,
             terminated: &mut self.terminated,
+            lapsed: &mut self.lapsed,
         }
     }
 
@@ -133,7 +143,41 @@ impl Lent {
             && each(&self.lots, 204)
             && each(&self.delivered, 205)
             && each(&self.terminated, 206)
+            && each(&self.lapsed, 207)
     }
+}
+
+/// The counts of an expiry that removed no line.
+pub fn all_kept(pairs: usize, lines: usize) -> Counts {
+    Counts {
+        pairs,
+        lines,
+        kept: lines,
+    }
+}
+
+/// The listing with a field of the rows of its sections left out.
+pub fn without_field(listing: &str, field: usize) -> String {
+    let first = listing.lines().next().unwrap();
+    let lines: usize = first.strip_prefix("register ").unwrap().parse().unwrap();
+    let row = |(i, row): (usize, &str)| {
+        let mut fields: Vec<&str> = row.split(' ').collect();
+        if i > lines {
+            fields.remove(field);
+        }
+        fields.join(" ") + "\n"
+    };
+    listing.lines().enumerate().map(row).collect()
+}
+
+/// The listing without the sums of margins.
+pub fn without_margins(listing: &str) -> String {
+    without_field(listing, 4)
+}
+
+/// The listing without the lapsed lots.
+pub fn without_lapsed(listing: &str) -> String {
+    without_field(listing, 3)
 }
 
 /// A line of a register, for histories.

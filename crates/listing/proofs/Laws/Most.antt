@@ -1,8 +1,9 @@
--- The most bytes of a listing (01, Program, 1): a buffer of so many cuts nothing.
+-- The most bytes of a listing (01, Program, 1; 02, a, 4): a buffer of so many cuts nothing.
 use Rattle.numbers.proofs.Words.{ℕ, zero, suc, _+_, _*_, _-_, _/_, _%_, _^_, _≤_, _<_, pow-suc, mul-le-mul, arith, _≡_, refl, Bool, true, false, List, [], _∷_, ⊎-elim, length, length-append, ℤ, pos, natAbs, ltZ, entry, entryℤ}
 use Rattle.numbers.specs.Text.{bytes, digitsFrom, decimal, signedDecimal}
 use Rattle.numbers.proofs.Tests.{below-or-not}
 use Rattle.rules.specs.declared.book.{Book.Book}
+use Rattle.rules.specs.Book.{sectionAt}
 use Rattle.rules.specs.Units.{tonnesOf}
 use Rattle.rules.specs.Expiry.Call.{Lists}
 use Rattle.rules.specs.File.{Lent}
@@ -37,26 +38,26 @@ signed-most k z h = by-sign (ltZ z (pos 0)) refl
     by-sign false e = rw (above-zero z e) (omega (arith, decimal-most k (natAbs z) h))
 
 -- the rows
-pub head-most : (lines : ℕ) → lines ≤ 382 → length (headRow lines) ≤ 13
+pub head-most : (kept : ℕ) → kept ≤ 382 → length (headRow kept) ≤ 13
 unfolding row bytes
-head-most lines h = simp length-append (omega (arith, decimal-most 2 lines (omega (arith, h))))
+head-most kept h = simp length-append (omega (arith, decimal-most 2 kept (omega (arith, h))))
 
 pub refused-most : (number place : ℕ) → number < 256 → place < 10 ^ 20 → length (refusedRow number place) ≤ 33
 unfolding row bytes
 refused-most number place h k = simp length-append (omega (arith, decimal-most 2 number (omega (arith, h)), decimal-most 19 place k))
 
-module _ {b : Book} {lines : ℕ} {buyers elevators sellers lots delivered terminated : List ℕ} {sums : List ℤ} (l : Limits b lines buyers elevators sellers lots delivered terminated sums) where
+module _ {b : Book} {kept : ℕ} {buyers elevators sellers lots delivered terminated lapsed : List ℕ} {sums : List ℤ} (l : Limits b kept buyers elevators sellers lots delivered terminated lapsed sums) where
   abbrev lists : Lists
-  lists = record { buyers = buyers; elevators = elevators; sellers = sellers; lots = lots; delivered = delivered; terminated = terminated }
+  lists = record { buyers = buyers; elevators = elevators; sellers = sellers; lots = lots; delivered = delivered; terminated = terminated; lapsed = lapsed }
 
   abbrev lent : Lent
   lent = record { lists = lists; sums = sums }
 
   -- what the writer asks of its lines
-  pub lines-asked : (i : ℕ) → i < lines → (entry buyers i < 128) × (entry sellers i < 128) × (entry lots i ≤ 1_000_000)
+  pub lines-asked : (i : ℕ) → i < kept → (entry buyers i < 128) × (entry sellers i < 128) × (entry lots i ≤ 1_000_000)
   lines-asked i h = let e = l .line i h in (omega (arith, e .0, l .held), omega (arith, e .2, l .held), e .3)
 
-  pub line-most : (i : ℕ) → i < lines → length (lineRow b lists i) ≤ 38
+  pub line-most : (i : ℕ) → i < kept → length (lineRow b lists i) ≤ 38
   unfolding lineRow row tonnesOf
   line-most i h =
       let e = l .line i h in
@@ -71,21 +72,24 @@ module _ {b : Book} {lines : ℕ} {buyers elevators sellers lots delivered termi
         decimal-most 9 (entry lots i * b .lot .0) (omega (arith, tonnes)),
       ))
 
-  section-most : (i : ℕ) → i < b .held → length (sectionRow b lent i) ≤ 45
-  unfolding sectionRow row
-  section-most i h =
+  -- a section's code and its lots, without the bytes that end them
+  pub lots-most : (i : ℕ) → i < b .held → length (sectionAt b i .code) + length (decimal (entry delivered i)) + length (decimal (entry terminated i)) + length (decimal (entry lapsed i)) ≤ 28
+  lots-most i h =
       let e = l .section i h in
-      simp length-append
-      (omega (
+      omega (
         arith,
         l .codes i h,
         decimal-most 6 (entry delivered i) (omega (arith, e .0)),
         decimal-most 6 (entry terminated i) (omega (arith, e .1)),
-        signed-most 18 (entryℤ sums i) (e .2),
-      ))
+        decimal-most 6 (entry lapsed i) (omega (arith, e .2)),
+      )
 
-  pub listing-most : length (listing b lines buyers elevators sellers lots delivered terminated sums) ≤ 20_289
+  section-most : (i : ℕ) → i < b .held → length (sectionRow b lent i) ≤ 53
+  unfolding sectionRow row
+  section-most i h = simp length-append (omega (arith, lots-most i h, signed-most 18 (entryℤ sums i) (l .section i h .3)))
+
+  pub listing-most : length (listing b kept buyers elevators sellers lots delivered terminated lapsed sums) ≤ 21_313
   unfolding listingOf
   listing-most =
       simp length-append
-      (omega (arith, head-most lines (l .few), texts-most (lineRow b lists) 38 lines line-most, texts-most (sectionRow b lent) 45 (b .held) section-most, l .few, l .held))
+      (omega (arith, head-most kept (l .few), texts-most (lineRow b lists) 38 kept line-most, texts-most (sectionRow b lent) 53 (b .held) section-most, l .few, l .held))

@@ -63,20 +63,14 @@ module _ {was : List ℕ} {at : ℕ} {whole mid : List ℕ} {next : ℕ} where
   pub finished : Begun was at whole mid next [] → Laid was at whole mid next
   finished b = rw (b .parts, append-nil) (b .laid)
 
--- a section's code and lots part by part, and a section's row with them as one part (01, Program, 1)
-module _ (codes : List ℕ) (i delivered terminated : ℕ) where
-  pub lots-parts : (end : ℕ) → lotsFields codes i delivered terminated end ≡ joined (field (codeAt codes i) 32 ∷ field (decimal delivered) 32 ∷ field (decimal terminated) end ∷ [])
-  lots-parts end = ap (λ (last : List ℕ). field (codeAt codes i) 32 ++ (field (decimal delivered) 32 ++ last)) (sym (append-nil (field (decimal terminated) end)))
+-- a section's code and lots part by part, and a section's row with them as one part (01, Program, 1; 02, a, 4)
+module _ (codes : List ℕ) (i delivered terminated lapsed : ℕ) where
+  pub lots-parts : (end : ℕ) → lotsFields codes i delivered terminated lapsed end ≡ joined (field (codeAt codes i) 32 ∷ field (decimal delivered) 32 ∷ field (decimal terminated) 32 ∷ field (decimal lapsed) end ∷ [])
+  lots-parts end =
+      ap (λ (last : List ℕ). field (codeAt codes i) 32 ++ (field (decimal delivered) 32 ++ (field (decimal terminated) 32 ++ last))) (sym (append-nil (field (decimal lapsed) end)))
 
-  pub lots-row : row (codeAt codes i ∷ decimal delivered ∷ decimal terminated ∷ []) ≡ lotsFields codes i delivered terminated 10
-  lots-row = row-joined (codeAt codes i ∷ decimal delivered ∷ decimal terminated ∷ []) ∙ sym (lots-parts 10)
+  pub lots-row : row (codeAt codes i ∷ decimal delivered ∷ decimal terminated ∷ decimal lapsed ∷ []) ≡ lotsFields codes i delivered terminated lapsed 10
+  lots-row = row-joined (codeAt codes i ∷ decimal delivered ∷ decimal terminated ∷ decimal lapsed ∷ []) ∙ sym (lots-parts 10)
 
-  pub section-parts : (sum : ℤ) → sectionRowOf codes i delivered terminated sum ≡ joined (lotsFields codes i delivered terminated 32 ∷ field (signedDecimal sum) 10 ∷ [])
-  section-parts sum =
-      let code = field (codeAt codes i) 32 in
-      let first = field (decimal delivered) 32 in
-      let second = field (decimal terminated) 32 in
-      let last = joined (field (signedDecimal sum) 10 ∷ []) in
-      row-joined (codeAt codes i ∷ decimal delivered ∷ decimal terminated ∷ signedDecimal sum ∷ [])
-      ∙ ap (λ (rest : List ℕ). code ++ rest) (sym (append-assoc first second last))
-      ∙ sym (append-assoc code (first ++ second) last)
+  pub section-parts : (sum : ℤ) → sectionRowOf codes i delivered terminated lapsed sum ≡ joined (lotsFields codes i delivered terminated lapsed 32 ∷ field (signedDecimal sum) 10 ∷ [])
+  section-parts sum = row-joined (codeAt codes i ∷ decimal delivered ∷ decimal terminated ∷ decimal lapsed ∷ signedDecimal sum ∷ []) ∙ sym (simp append-assoc)

@@ -1,4 +1,4 @@
--- The columns of the book stand in six local lists.
+-- The columns of the book stand in seven local lists.
 use Rattle.numbers.proofs.Words.{ℕ, arith, _≡_, refl, sym, _∙_, List, take, length, replicate, length-take-le, ℤ, pos, needs}
 use Rattle.numbers.proofs.Front.{Front, front-of}
 use Rattle.book_laws.proofs.Good.{Good, facts}
@@ -27,116 +27,139 @@ filed-long c places e = sym (length-take-le _ places (omega (arith, e, book c .f
 -- and filled
 module _ (c : tie.After-fill) where
   abbrev start : tie.Start
-  start = c .before .before .before .before .before .before .before .before .before .before
+  start = c .before .before .before .before .before .before .before .before .before
 
-  codes-front : Front (start .args .b .held) sections (c .fill .last .1 .0)
-  codes-front = front-of _ _ _ (book start .held) (c .fill .kept .1 .0)
-
-  positions-front : Front (start .args .b .held) amounts (c .fill .last .1 .1 .0)
-  positions-front = front-of _ _ _ (book start .held) (c .fill .kept .1 .1 .0)
-
-  keys-front : Front (start .args .b .held) sections (c .fill .last .1 .1 .1 .0)
-  keys-front = front-of _ _ _ (book start .held) (c .fill .kept .1 .1 .1 .0)
+  persons-front : Front (start .args .b .held) sections (c .fill .last .1 .0)
+  persons-front = front-of _ _ _ (book start .held) (c .fill .kept .1 .0)
 
 module _ (c : tie.After-fill2) where
-  abbrev first : tie.Start
-  first = c .before .before .before .before .before .before .before .before .before .before .before .before .before .before .before .before .before
+  abbrev second : tie.Start
+  second = c .before .before .before .before .before .before .before .before .before .before .before .before .before .before
 
-  selling-front : Front (first .args .b .filed) notices (c .fill2 .last .1 .0)
-  selling-front = front-of _ _ _ (book first .filed) (c .fill2 .kept .1 .0)
+  codes-front : Front (second .args .b .held) sections (c .fill2 .last .1 .0)
+  codes-front = front-of _ _ _ (book second .held) (c .fill2 .kept .1 .0)
 
-  stands-front : Front (first .args .b .filed) notices (c .fill2 .last .1 .1 .0)
-  stands-front = front-of _ _ _ (book first .filed) (c .fill2 .kept .1 .1 .0)
+  positions-front : Front (second .args .b .held) amounts (c .fill2 .last .1 .1 .0)
+  positions-front = front-of _ _ _ (book second .held) (c .fill2 .kept .1 .1 .0)
 
-  stock-front : Front (first .args .b .filed) notices (c .fill2 .last .1 .1 .1 .0)
-  stock-front = front-of _ _ _ (book first .filed) (c .fill2 .kept .1 .1 .1 .0)
+  keys-front : Front (second .args .b .held) sections (c .fill2 .last .1 .1 .1 .0)
+  keys-front = front-of _ _ _ (book second .held) (c .fill2 .kept .1 .1 .1 .0)
 
-array-borrow-prefix-codes : tie.Need-array-borrow-prefix-codes
-array-borrow-prefix-codes c = book (c .before .before .before .before .before .before) .held
+module _ (c : tie.After-fill3) where
+  abbrev third : tie.Start
+  third = c .before .before .before .before .before .before .before .before .before .before .before .before .before .before .before .before .before .before .before .before .before
+
+  selling-front : Front (third .args .b .filed) notices (c .fill3 .last .1 .0)
+  selling-front = front-of _ _ _ (book third .filed) (c .fill3 .kept .1 .0)
+
+  stands-front : Front (third .args .b .filed) notices (c .fill3 .last .1 .1 .0)
+  stands-front = front-of _ _ _ (book third .filed) (c .fill3 .kept .1 .1 .0)
+
+  stock-front : Front (third .args .b .filed) notices (c .fill3 .last .1 .1 .1 .0)
+  stock-front = front-of _ _ _ (book third .filed) (c .fill3 .kept .1 .1 .1 .0)
+
+array-borrow-prefix-persons : tie.Need-array-borrow-prefix-persons
+array-borrow-prefix-persons c = book (c .before .before .before .before .before .before .before) .held
 
 slice-aggregate-fill : tie.Need-slice-aggregate-fill
-slice-aggregate-fill c = held-long (c .before .before .before .before .before .before .before) sections refl
-
-array-borrow-prefix-positions : tie.Need-array-borrow-prefix-positions
-array-borrow-prefix-positions c = book (c .before .before .before .before .before .before .before) .held
-
-slice-aggregate-fill-2 : tie.Need-slice-aggregate-fill-2
-slice-aggregate-fill-2 c = held-long (c .before .before .before .before .before .before .before .before) amounts refl
-
-array-borrow-prefix-keys : tie.Need-array-borrow-prefix-keys
-array-borrow-prefix-keys c = book (c .before .before .before .before .before .before .before .before) .held
-
-slice-aggregate-fill-3 : tie.Need-slice-aggregate-fill-3
-slice-aggregate-fill-3 c = held-long (c .before .before .before .before .before .before .before .before .before) sections refl
+slice-aggregate-fill c = held-long (c .before .before .before .before .before .before .before .before) sections refl
 
 fill-requires : tie.Need-fill-requires
-fill-requires c κs = let start = c .before .before .before .before .before .before .before .before .before in (start .pre .0, sym (held-long start sections refl), sym (held-long start amounts refl), sym (held-long start sections refl))
+fill-requires c κs = let start = c .before .before .before .before .before .before .before .before in (start .pre .0, sym (held-long start sections refl))
 
-array-borrow-prefix-selling : tie.Need-array-borrow-prefix-selling
-array-borrow-prefix-selling c = book (c .before .before .before .before .before .before .before .before .before .before .before .before .before) .filed
+array-borrow-prefix-codes : tie.Need-array-borrow-prefix-codes
+array-borrow-prefix-codes c = book (c .before .before .before .before .before .before .before .before .before .before) .held
+
+slice-aggregate-fill-2 : tie.Need-slice-aggregate-fill-2
+slice-aggregate-fill-2 c = held-long (c .before .before .before .before .before .before .before .before .before .before .before) sections refl
+
+array-borrow-prefix-positions : tie.Need-array-borrow-prefix-positions
+array-borrow-prefix-positions c = book (c .before .before .before .before .before .before .before .before .before .before .before) .held
+
+slice-aggregate-fill-3 : tie.Need-slice-aggregate-fill-3
+slice-aggregate-fill-3 c = held-long (c .before .before .before .before .before .before .before .before .before .before .before .before) amounts refl
+
+array-borrow-prefix-keys : tie.Need-array-borrow-prefix-keys
+array-borrow-prefix-keys c = book (c .before .before .before .before .before .before .before .before .before .before .before .before) .held
 
 slice-aggregate-fill-4 : tie.Need-slice-aggregate-fill-4
-slice-aggregate-fill-4 c = filed-long (c .before .before .before .before .before .before .before .before .before .before .before .before .before .before) notices refl
-
-array-borrow-prefix-stands : tie.Need-array-borrow-prefix-stands
-array-borrow-prefix-stands c = book (c .before .before .before .before .before .before .before .before .before .before .before .before .before .before) .filed
-
-slice-aggregate-fill-5 : tie.Need-slice-aggregate-fill-5
-slice-aggregate-fill-5 c = filed-long (c .before .before .before .before .before .before .before .before .before .before .before .before .before .before .before) notices refl
-
-array-borrow-prefix-stock : tie.Need-array-borrow-prefix-stock
-array-borrow-prefix-stock c = book (c .before .before .before .before .before .before .before .before .before .before .before .before .before .before .before) .filed
-
-slice-aggregate-fill-6 : tie.Need-slice-aggregate-fill-6
-slice-aggregate-fill-6 c = filed-long (c .before .before .before .before .before .before .before .before .before .before .before .before .before .before .before .before) notices refl
+slice-aggregate-fill-4 c = held-long (c .before .before .before .before .before .before .before .before .before .before .before .before .before) sections refl
 
 fill-requires-2 : tie.Need-fill-requires-2
-fill-requires-2 c κs = let start = c .before .before .before .before .before .before .before .before .before .before .before .before .before .before .before .before in (start .pre .0, sym (filed-long start notices refl), sym (filed-long start notices refl), sym (filed-long start notices refl))
+fill-requires-2 c κs = let start = c .before .before .before .before .before .before .before .before .before .before .before .before .before in (start .pre .0, sym (held-long start sections refl), sym (held-long start amounts refl), sym (held-long start sections refl))
 
-array-share-prefix-codes : tie.Need-array-share-prefix-codes
-array-share-prefix-codes c = codes-front (c .before .before .before .before .before .before .before .before .before .before) .fits
+array-borrow-prefix-selling : tie.Need-array-borrow-prefix-selling
+array-borrow-prefix-selling c = book (c .before .before .before .before .before .before .before .before .before .before .before .before .before .before .before .before .before) .filed
+
+slice-aggregate-fill-5 : tie.Need-slice-aggregate-fill-5
+slice-aggregate-fill-5 c = filed-long (c .before .before .before .before .before .before .before .before .before .before .before .before .before .before .before .before .before .before) notices refl
+
+array-borrow-prefix-stands : tie.Need-array-borrow-prefix-stands
+array-borrow-prefix-stands c = book (c .before .before .before .before .before .before .before .before .before .before .before .before .before .before .before .before .before .before) .filed
+
+slice-aggregate-fill-6 : tie.Need-slice-aggregate-fill-6
+slice-aggregate-fill-6 c = filed-long (c .before .before .before .before .before .before .before .before .before .before .before .before .before .before .before .before .before .before .before) notices refl
+
+array-borrow-prefix-stock : tie.Need-array-borrow-prefix-stock
+array-borrow-prefix-stock c = book (c .before .before .before .before .before .before .before .before .before .before .before .before .before .before .before .before .before .before .before) .filed
+
+slice-aggregate-fill-7 : tie.Need-slice-aggregate-fill-7
+slice-aggregate-fill-7 c = filed-long (c .before .before .before .before .before .before .before .before .before .before .before .before .before .before .before .before .before .before .before .before) notices refl
+
+fill-requires-3 : tie.Need-fill-requires-3
+fill-requires-3 c κs = let start = c .before .before .before .before .before .before .before .before .before .before .before .before .before .before .before .before .before .before .before .before in (start .pre .0, sym (filed-long start notices refl), sym (filed-long start notices refl), sym (filed-long start notices refl))
+
+array-share-prefix-persons : tie.Need-array-share-prefix-persons
+array-share-prefix-persons c = persons-front (c .before .before .before .before .before .before .before .before .before .before .before .before .before .before .before) .fits
 
 slice-aggregate-run : tie.Need-slice-aggregate-run
-slice-aggregate-run c = sym (codes-front (c .before .before .before .before .before .before .before .before .before .before .before) .long)
+slice-aggregate-run c = sym (persons-front (c .before .before .before .before .before .before .before .before .before .before .before .before .before .before .before .before) .long)
 
-array-share-prefix-positions : tie.Need-array-share-prefix-positions
-array-share-prefix-positions c = positions-front (c .before .before .before .before .before .before .before .before .before .before .before) .fits
+array-share-prefix-codes : tie.Need-array-share-prefix-codes
+array-share-prefix-codes c = codes-front (c .before .before .before .before .before .before .before .before .before .before .before) .fits
 
 slice-aggregate-run-2 : tie.Need-slice-aggregate-run-2
-slice-aggregate-run-2 c = sym (positions-front (c .before .before .before .before .before .before .before .before .before .before .before .before) .long)
+slice-aggregate-run-2 c = sym (codes-front (c .before .before .before .before .before .before .before .before .before .before .before .before) .long)
 
-array-share-prefix-keys : tie.Need-array-share-prefix-keys
-array-share-prefix-keys c = keys-front (c .before .before .before .before .before .before .before .before .before .before .before .before) .fits
+array-share-prefix-positions : tie.Need-array-share-prefix-positions
+array-share-prefix-positions c = positions-front (c .before .before .before .before .before .before .before .before .before .before .before .before) .fits
 
 slice-aggregate-run-3 : tie.Need-slice-aggregate-run-3
-slice-aggregate-run-3 c = sym (keys-front (c .before .before .before .before .before .before .before .before .before .before .before .before .before) .long)
+slice-aggregate-run-3 c = sym (positions-front (c .before .before .before .before .before .before .before .before .before .before .before .before .before) .long)
 
-array-share-prefix-selling : tie.Need-array-share-prefix-selling
-array-share-prefix-selling c = selling-front (c .before .before .before .before .before .before) .fits
+array-share-prefix-keys : tie.Need-array-share-prefix-keys
+array-share-prefix-keys c = keys-front (c .before .before .before .before .before .before .before .before .before .before .before .before .before) .fits
 
 slice-aggregate-run-4 : tie.Need-slice-aggregate-run-4
-slice-aggregate-run-4 c = sym (selling-front (c .before .before .before .before .before .before .before) .long)
+slice-aggregate-run-4 c = sym (keys-front (c .before .before .before .before .before .before .before .before .before .before .before .before .before .before) .long)
 
-array-share-prefix-stands : tie.Need-array-share-prefix-stands
-array-share-prefix-stands c = stands-front (c .before .before .before .before .before .before .before) .fits
+array-share-prefix-selling : tie.Need-array-share-prefix-selling
+array-share-prefix-selling c = selling-front (c .before .before .before .before .before .before .before) .fits
 
 slice-aggregate-run-5 : tie.Need-slice-aggregate-run-5
-slice-aggregate-run-5 c = sym (stands-front (c .before .before .before .before .before .before .before .before) .long)
+slice-aggregate-run-5 c = sym (selling-front (c .before .before .before .before .before .before .before .before) .long)
 
-array-share-prefix-stock : tie.Need-array-share-prefix-stock
-array-share-prefix-stock c = stock-front (c .before .before .before .before .before .before .before .before) .fits
+array-share-prefix-stands : tie.Need-array-share-prefix-stands
+array-share-prefix-stands c = stands-front (c .before .before .before .before .before .before .before .before) .fits
 
 slice-aggregate-run-6 : tie.Need-slice-aggregate-run-6
-slice-aggregate-run-6 c = sym (stock-front (c .before .before .before .before .before .before .before .before .before) .long)
+slice-aggregate-run-6 c = sym (stands-front (c .before .before .before .before .before .before .before .before .before) .long)
+
+array-share-prefix-stock : tie.Need-array-share-prefix-stock
+array-share-prefix-stock c = stock-front (c .before .before .before .before .before .before .before .before .before) .fits
+
+slice-aggregate-run-7 : tie.Need-slice-aggregate-run-7
+slice-aggregate-run-7 c = sym (stock-front (c .before .before .before .before .before .before .before .before .before .before) .long)
 
 run-requires : tie.Need-run-requires
 run-requires c κs =
-    let noticed = c .before .before .before .before .before .before .before .before .before .before .before .before .before .before .before in
+    let noticed = c .before .before .before .before .before .before .before .before .before .before .before .before .before .before .before .before .before in
     let filled = noticed .before .before .before .before .before .before .before in
-    let held = filled .fill .ensures in
-    let filed = noticed .fill2 .ensures in (
+    let named = filled .before .before .before .before .before in
+    let held = filled .fill2 .ensures in
+    let filed = noticed .fill3 .ensures in (
       (
-        start filled .pre .0,
+        start named .pre .0,
         record {
           codes-are = codes-front filled .is ∙ held .0;
           positions-are = positions-front filled .is ∙ held .1 .0;
@@ -148,8 +171,9 @@ run-requires c κs =
                 lots-are = stock-front noticed .is ∙ filed .1 .1;
               };
         },
+        persons-front named .is ∙ named .fill .ensures,
       ),
-      start filled .pre .1,
+      start named .pre .1,
     )
 
 same-length : tie.Need-same-length
@@ -170,6 +194,9 @@ same-length-5 c = search needs
 same-length-6 : tie.Need-same-length-6
 same-length-6 c = search needs
 
+same-length-7 : tie.Need-same-length-7
+same-length-7 c = search needs
+
 returns : tie.Need-returns
 returns c = search needs
 
@@ -177,32 +204,37 @@ pub deliver-spec : {M : Type 1} → statement M
 deliver-spec =
     tie.close
     (tie.spec
-    array-borrow-prefix-codes
+    array-borrow-prefix-persons
     slice-aggregate-fill
-    array-borrow-prefix-positions
-    slice-aggregate-fill-2
-    array-borrow-prefix-keys
-    slice-aggregate-fill-3
     fill-requires
-    array-borrow-prefix-selling
+    array-borrow-prefix-codes
+    slice-aggregate-fill-2
+    array-borrow-prefix-positions
+    slice-aggregate-fill-3
+    array-borrow-prefix-keys
     slice-aggregate-fill-4
-    array-borrow-prefix-stands
-    slice-aggregate-fill-5
-    array-borrow-prefix-stock
-    slice-aggregate-fill-6
     fill-requires-2
-    array-share-prefix-codes
+    array-borrow-prefix-selling
+    slice-aggregate-fill-5
+    array-borrow-prefix-stands
+    slice-aggregate-fill-6
+    array-borrow-prefix-stock
+    slice-aggregate-fill-7
+    fill-requires-3
+    array-share-prefix-persons
     slice-aggregate-run
-    array-share-prefix-positions
+    array-share-prefix-codes
     slice-aggregate-run-2
-    array-share-prefix-keys
+    array-share-prefix-positions
     slice-aggregate-run-3
-    array-share-prefix-selling
+    array-share-prefix-keys
     slice-aggregate-run-4
-    array-share-prefix-stands
+    array-share-prefix-selling
     slice-aggregate-run-5
-    array-share-prefix-stock
+    array-share-prefix-stands
     slice-aggregate-run-6
+    array-share-prefix-stock
+    slice-aggregate-run-7
     run-requires
     same-length
     same-length-2
@@ -210,4 +242,5 @@ deliver-spec =
     same-length-4
     same-length-5
     same-length-6
+    same-length-7
     returns)

@@ -65,11 +65,11 @@ failing-requires c κs =
 array-share-prefix-failed : tie.Need-array-share-prefix-failed
 array-share-prefix-failed c = failed-front (c .before) .fits
 
-slice-aggregate-delivered : tie.Need-slice-aggregate-delivered
-slice-aggregate-delivered c = sym (failed-front (c .before .before) .long)
+slice-aggregate-remaining : tie.Need-slice-aggregate-remaining
+slice-aggregate-remaining c = sym (failed-front (c .before .before) .long)
 
-delivered-requires : tie.Need-delivered-requires
-delivered-requires c κs =
+remaining-requires : tie.Need-remaining-requires
+remaining-requires c κs =
     let at = c .before .before .before in
     let start = at .before .before .before .before .before .before .before .before .before .before .before .before in (
       held-columns (book start) (start .pre .2) _ (start .pre .1),
@@ -85,7 +85,7 @@ returns c =
     let at = c .before .before .before .before .before .before in
     let start = at .before .before .before .before .before .before .before .before .before .before .before .before in
     let b = start .args .b in
-    (c .before .before .delivered .ensures .0 (heldSections b) (filedNotices b) (columns (book start) (start .pre .2)) (failed-front at .is ∙ at .failing .ensures), c .before .before .delivered .ensures .1)
+    (c .before .before .remaining .ensures .0 (heldSections b) (filedNotices b) (columns (book start) (start .pre .2)) (failed-front at .is ∙ at .failing .ensures), c .before .before .remaining .ensures .1)
 
 pub keep-spec : {M : Type 1} → statement M
 keep-spec =
@@ -100,7 +100,7 @@ keep-spec =
     slice-aggregate-failing-2
     failing-requires
     array-share-prefix-failed
-    slice-aggregate-delivered
-    delivered-requires
+    slice-aggregate-remaining
+    remaining-requires
     same-length
     returns)

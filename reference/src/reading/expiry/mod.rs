@@ -1,4 +1,5 @@
-//! Expiry in its order (document 01, "Expiry in its order"; 000, 2.1 to 2.6).
+//! Expiry in its order (document 01, "Expiry in its order"; 000, 2.1 to 2.6),
+//! and the lines taken out after it (document 02, a).
 //!
 //! The steps work on signed lots, one number for each section held: above 0
 //! long, below 0 short. Nothing here changes the book.
@@ -6,11 +7,13 @@
 pub mod failing;
 pub mod outside;
 pub mod passes;
+pub mod same_person;
 
 use crate::reading::book::{Book, SETTLEMENT_CODES, SectionCode};
 use failing::{failed_nets, fails, give_across_codes, give_within_codes, sound_lots};
 use outside::{draw_notices, mark_outside};
 use passes::form_passes;
+use same_person::{lots_in, parted};
 
 /// Lots of a buyer section and an elevator that stage one put together.
 #[derive(Clone, Copy, Debug, PartialEq, Eq)]
@@ -20,7 +23,7 @@ pub struct Pair {
     pub lots: i64,
 }
 
-/// A line of the register: one buyer, one elevator, one seller.
+/// A line formed: one buyer, one elevator, one seller.
 #[derive(Clone, Copy, Debug, PartialEq, Eq)]
 pub struct Line {
     pub buyer: usize,
@@ -79,10 +82,13 @@ pub struct Settlement {
     pub drawn: Vec<Drawn>,
     /// Step 6: the passes that have lots, in their order.
     pub passes: Vec<Pass>,
+    /// The register: the lines kept, in the order formed.
+    pub register: Vec<Line>,
     /// "Its lots are all terminated, as are lots given in 2 and 3; the rest
-    /// are delivered."
+    /// are delivered", but for those of removed lines, which lapse.
     pub delivered: Vec<u32>,
     pub terminated: Vec<u32>,
+    pub lapsed: Vec<u32>,
 }
 
 impl Settlement {
@@ -91,13 +97,14 @@ impl Settlement {
         self.passes.iter().map(|pass| pass.pairs.len()).sum()
     }
 
-    /// The register: the lines of all passes, in the order formed.
+    /// The lines formed in all passes, in that order; some may be removed.
     pub fn lines(&self) -> impl Iterator<Item = &Line> {
         self.passes.iter().flat_map(|pass| &pass.lines)
     }
 }
 
-/// The six steps over the sections and notices held by a good book.
+/// The six steps over the sections and notices held by a good book, and what
+/// is removed after them.
 pub fn settle(book: &Book) -> Settlement {
     let failing: Vec<bool> = (0..book.sections_held).map(|i| fails(book, i)).collect();
     let mut left = sound_lots(book, &failing);
@@ -108,14 +115,17 @@ pub fn settle(book: &Book) -> Settlement {
     let outside = mark_outside(book, &left);
     let drawn = draw_notices(book, &left, &outside);
     let passes = form_passes(book, &left, &outside, &drawn);
-    let delivered: Vec<u32> = left.iter().map(|&lots| size(lots)).collect();
-    let terminated = book
-        .sections()
-        .iter()
-        .zip(&delivered)
-        .map(|(section, delivered)| size(section.position) - delivered);
+    let (removed, register) = parted(book, &passes);
+    let lapsed = lots_in(&removed, book.sections_held);
+    let sections = book.sections().iter().zip(&left);
+    let terminated = sections.map(|(section, &left)| size(section.position) - size(left));
+    let rest = left.iter().zip(&lapsed);
+    let delivered = rest.map(|(&left, lapsed)| size(left) - lapsed);
     Settlement {
+        delivered: delivered.collect(),
         terminated: terminated.collect(),
+        lapsed,
+        register,
         failing,
         failed,
         unclosed,
@@ -124,7 +134,6 @@ pub fn settle(book: &Book) -> Settlement {
         outside,
         drawn,
         passes,
-        delivered,
     }
 }
 

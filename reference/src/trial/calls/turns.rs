@@ -4,6 +4,7 @@ use super::view::{Step, View};
 use crate::reading::book::SECTIONS;
 use crate::reading::file::EVENTS;
 use crate::reading::file::event::{Event, encode};
+use crate::trial::removal::Removal;
 use std::collections::BTreeSet;
 
 /// The name of what is reached, and whether a file does.
@@ -138,12 +139,51 @@ const SESSIONS: &[Turn] = &[
 ];
 
 const EXPIRIES: &[Turn] = &[
-    ("with lines", |v| v.expiry().is_some_and(|e| e.lines > 0)),
+    ("with lines", |v| v.removal(|r| !r.lines.is_empty())),
     ("with 300 lines or more", |v| {
-        v.expiry().is_some_and(|e| e.lines >= 300)
+        v.removal(|r| r.lines.len() >= 300)
     }),
     ("with sections and no line", |v| {
-        v.expiry().is_some_and(|e| e.held > 0 && e.lines == 0)
+        v.removal(|r| !r.sections.is_empty() && r.lines.is_empty())
+    }),
+    ("with 300 lines kept or more", |v| {
+        v.removal(|r| r.kept() >= 300)
+    }),
+    ("with 50 lines removed or more", |v| {
+        v.removal(|r| r.removed() >= 50)
+    }),
+    ("with none of several lines removed", |v| {
+        v.removal(|r| r.kept() > 1 && r.removed() == 0)
+    }),
+    ("with the first line removed, others kept", |v| {
+        v.removal(Removal::first)
+    }),
+    ("with a line removed between two kept ones", |v| {
+        v.removal(Removal::between)
+    }),
+    ("with the last line removed, others kept", |v| {
+        v.removal(Removal::last)
+    }),
+    ("with all of several lines removed", |v| {
+        v.removal(Removal::all)
+    }),
+    ("with a line of an inside pass removed", |v| {
+        v.removal(|r| r.any_removed(|line| line.inside))
+    }),
+    ("with a line of the outside pass removed", |v| {
+        v.removal(|r| r.any_removed(|line| !line.inside))
+    }),
+    ("with all three lots in one section", |v| {
+        v.removal(|r| r.any_section(|lots| lots.kinds() == [true; 3]))
+    }),
+    ("with lapsed lots alone in a long section", |v| {
+        v.removal(|r| r.any_section(|lots| lots.long && lots.lapsed_alone()))
+    }),
+    ("with lapsed lots alone in a short section", |v| {
+        v.removal(|r| r.any_section(|lots| !lots.long && lots.lapsed_alone()))
+    }),
+    ("with all that a notice drew lapsed", |v| {
+        v.removal(|r| r.notices().iter().any(|[kept, _]| *kept == 0))
     }),
     ("with no section", |v| {
         v.expiry().is_some_and(|e| e.held == 0)

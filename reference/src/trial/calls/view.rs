@@ -2,10 +2,12 @@
 
 use crate::reading::answers::opened;
 use crate::reading::book::{Book, SECTIONS};
+use crate::reading::expiry::settle;
 use crate::reading::file::event::Event;
 use crate::reading::file::{Reader, SIZES};
 use crate::reading::listing::Lists;
 use crate::reading::refusal::Refusal;
+use crate::trial::removal::Removal;
 
 /// An event and what was answered to it.
 pub(super) struct Step {
@@ -21,7 +23,7 @@ pub(super) struct Step {
     /// Of an accepted session.
     pub(super) margins: Vec<i64>,
     /// Of an accepted expiry.
-    pub(super) lines: usize,
+    pub(super) removal: Option<Removal>,
 }
 
 impl Step {
@@ -94,6 +96,12 @@ impl View {
         steps.find(|step| step.is_expiry() && step.is_accepted())
     }
 
+    /// An accepted expiry with this property of its lines.
+    pub(super) fn removal(&self, holds: impl Fn(&Removal) -> bool) -> bool {
+        let removal = self.expiry().and_then(|step| step.removal.as_ref());
+        removal.is_some_and(holds)
+    }
+
     /// What stands before the accepted expiry; all, where there is none.
     pub(super) fn before_expiry(&self) -> &[Step] {
         let ends = |step: &Step| step.is_expiry() && step.is_accepted();
@@ -129,10 +137,13 @@ fn steps(file: &[u8], n: usize, mut book: Book) -> Vec<Step> {
             held: book.sections_held,
             before_run: before.map_or(0, first),
             margins: vec![],
-            lines: answer.map_or(0, |counts| counts.lines),
+            removal: None,
         };
         if step.is_session() && step.is_accepted() {
             step.margins = margins[..step.held].to_vec();
+        }
+        if step.is_expiry() && step.is_accepted() {
+            step.removal = Some(Removal::new(&book, &settle(&book)));
         }
         steps.push(step);
     }

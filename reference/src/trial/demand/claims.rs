@@ -1,7 +1,7 @@
 //! The claims of demand 3, from the accepted calls of a history.
 
 use super::{Entry, Expiry, History, Outcome, Step};
-use crate::reading::book::SectionCode;
+use crate::reading::calls::Counts;
 use crate::reading::file::event::Event;
 use crate::reading::value::{factor, value};
 use std::collections::BTreeMap;
@@ -33,8 +33,11 @@ impl History {
     pub fn demand_three(&self) -> Result<(), String> {
         self.margins_of_each_session_sum_to_zero()?;
         self.margins_of_each_section_sum_to_its_gain()?;
-        self.lots_are_delivered_or_terminated()?;
+        self.lots_are_delivered_terminated_or_lapsed()?;
         self.register_holds_the_delivered_lots()?;
+        self.removed_lines_hold_the_lapsed_lots()?;
+        self.register_is_the_lines_kept()?;
+        self.answer_counts_the_lines()?;
         self.no_notice_is_drawn_beyond_its_lots()?;
         self.lines_are_few()
     }
@@ -42,6 +45,12 @@ impl History {
     /// Whether an expiry was accepted.
     pub fn has_expiry(&self) -> bool {
         self.expiry().is_some()
+    }
+
+    /// Whether an accepted expiry removed a line.
+    pub fn has_removed_line(&self) -> bool {
+        self.expiry()
+            .is_some_and(|expiry| expiry.counts.kept < expiry.counts.lines)
     }
 
     /// "Accepted means answered 0."
@@ -53,14 +62,14 @@ impl History {
             .map(|step| (&step.event, step.answer.as_ref().expect("an accepted call")))
     }
 
-    /// The section codes in the order of the accepted section calls.
-    fn sections(&self) -> Vec<SectionCode> {
-        let code = |event: &Event| match *event {
-            Event::Section { code, .. } => Some(code),
+    /// The participants in the order of the accepted section calls.
+    fn participants(&self) -> Vec<u32> {
+        let participant = |event: &Event| match *event {
+            Event::Section { participant, .. } => Some(participant),
             _ => None,
         };
         self.accepted()
-            .filter_map(|(event, _)| code(event))
+            .filter_map(|(event, _)| participant(event))
             .collect()
     }
 
@@ -96,7 +105,7 @@ impl History {
 
     /// "lots bought less sold, over all accepted trades"
     fn net_lots(&self) -> Vec<i64> {
-        let mut net = vec![0; self.sections().len()];
+        let mut net = vec![0; self.participants().len()];
         for trade in self.trades() {
             net[trade.buyer] += trade.lots;
             net[trade.seller] -= trade.lots;
@@ -121,10 +130,11 @@ impl History {
     }
 
     /// "A notice's drawn lots are those of the lines formed with its section as
-    /// seller at its elevator; it is drawn where there are any."
+    /// seller at its elevator; it is drawn where there are any." The line limit
+    /// "takes in the notices of removed lines" (document 02, a).
     fn drawn(&self) -> BTreeMap<(u8, u8), u64> {
         let mut drawn = BTreeMap::new();
-        for line in self.expiry().iter().flat_map(|expiry| &expiry.register) {
+        for line in self.expiry().iter().flat_map(|expiry| &expiry.formed) {
             *drawn.entry((line.seller, line.elevator)).or_default() += u64::from(line.lots);
         }
         drawn.retain(|_, lots| *lots > 0);
@@ -159,7 +169,7 @@ impl History {
             .sessions()
             .last()
             .map_or(0, |(price, _)| value(price, k));
-        let mut gains = vec![0_i128; self.sections().len()];
+        let mut gains = vec![0_i128; self.participants().len()];
         for trade in self.trades_before_last_session() {
             let gain = i128::from(trade.lots) * i128::from(last - value(trade.price, k));
             gains[trade.buyer] += gain;
@@ -176,40 +186,70 @@ impl History {
         })
     }
 
-    /// "each section's delivered and terminated lots sum to the size of its
-    /// lots bought less sold in the accepted trades"
-    fn lots_are_delivered_or_terminated(&self) -> Result<(), String> {
+    /// "A section's delivered, terminated and lapsed lots together make up the
+    /// size of its position" (document 02, a), which is "its lots bought less
+    /// sold in the accepted trades".
+    fn lots_are_delivered_terminated_or_lapsed(&self) -> Result<(), String> {
         let Some(expiry) = self.expiry() else {
             return Ok(());
         };
         for (i, net) in self.net_lots().iter().enumerate() {
-            let (delivered, terminated) = (expiry.delivered[i], expiry.terminated[i]);
-            let sum = u64::from(delivered) + u64::from(terminated);
+            let lots = [&expiry.delivered, &expiry.terminated, &expiry.lapsed].map(|list| list[i]);
+            let sum: u64 = lots.iter().copied().map(u64::from).sum();
             claim(sum == net.unsigned_abs(), || {
-                format!("section {i}: {delivered} delivered, {terminated} terminated of {net}")
+                format!("section {i}: {lots:?} delivered, terminated and lapsed of {net}")
             })?;
         }
         Ok(())
     }
 
-    /// "its lots in the register equal its delivered lots": "A section's lots
-    /// in it are those of the lines naming it as buyer or seller."
-    fn register_holds_the_delivered_lots(&self) -> Result<(), String> {
+    /// "The answer still counts all lines formed, and beside them the lines kept,
+    /// which are now the register" (document 02, a).
+    fn answer_counts_the_lines(&self) -> Result<(), String> {
         let Some(expiry) = self.expiry() else {
             return Ok(());
         };
-        claim(expiry.counts.lines == expiry.register.len(), || {
-            "the answer counts the lines".to_string()
-        })?;
-        for (i, &delivered) in expiry.delivered.iter().enumerate() {
-            let names = |line: &&Entry| [line.buyer, line.seller].map(usize::from).contains(&i);
-            let lines = expiry.register.iter().filter(names);
-            let lots: u64 = lines.map(|line| u64::from(line.lots)).sum();
-            claim(lots == u64::from(delivered), || {
-                format!("section {i}: {lots} lots in the register, {delivered} delivered")
-            })?;
-        }
-        Ok(())
+        let Counts { lines, kept, .. } = expiry.counts;
+        let of = (expiry.formed.len(), expiry.register.len());
+        claim((lines, kept) == of, || {
+            format!("the answer counts {lines} lines and {kept} kept where there are {of:?}")
+        })
+    }
+
+    /// The lines formed that are removed and those that are kept: "A line whose
+    /// buyer and seller share a participant shall be formed as before and then
+    /// taken out, the later lines moving up" (document 02, a).
+    fn removed_and_kept(&self) -> (Vec<Entry>, Vec<Entry>) {
+        let participants = self.participants();
+        let participant = |section: u8| participants[usize::from(section)];
+        let formed = self.expiry().into_iter().flat_map(|expiry| &expiry.formed);
+        formed.partition(|line| participant(line.buyer) == participant(line.seller))
+    }
+
+    /// "the lines kept, which are now the register" (document 02, a)
+    fn register_is_the_lines_kept(&self) -> Result<(), String> {
+        let Some(expiry) = self.expiry() else {
+            return Ok(());
+        };
+        claim(expiry.register == self.removed_and_kept().1, || {
+            "the register is not the lines kept".to_string()
+        })
+    }
+
+    /// "its lots in the register equal its delivered lots"
+    fn register_holds_the_delivered_lots(&self) -> Result<(), String> {
+        self.expiry().map_or(Ok(()), |expiry| {
+            lots_equal(&expiry.register, "the register", &expiry.delivered)
+        })
+    }
+
+    /// A removed line's "lots go to a third section list, "lapsed"" (document
+    /// 02, a).
+    fn removed_lines_hold_the_lapsed_lots(&self) -> Result<(), String> {
+        self.expiry().map_or(Ok(()), |expiry| {
+            let (removed, _) = self.removed_and_kept();
+            lots_equal(&removed, "removed lines", &expiry.lapsed)
+        })
     }
 
     /// "No notice is drawn beyond its lots."
@@ -225,21 +265,37 @@ impl History {
     }
 
     /// "If the expiry's answer counts any line, it counts at most the
-    /// delivering long sections and the drawn notices together, less one."
+    /// delivering long sections and the drawn notices together, less one." The
+    /// limit takes in "long sections with lapsed lots" (document 02, a).
     fn lines_are_few(&self) -> Result<(), String> {
         let Some(expiry) = self.expiry() else {
             return Ok(());
         };
         let lines = expiry.counts.lines;
-        let sections = expiry.delivered.iter().zip(self.net_lots());
+        let takes_part = |i: usize| expiry.delivered[i] > 0 || expiry.lapsed[i] > 0;
+        let sections = self.net_lots().into_iter().enumerate();
         let long = sections
-            .filter(|(lots, net)| **lots > 0 && *net > 0)
+            .filter(|&(i, net)| net > 0 && takes_part(i))
             .count();
         let drawn = self.drawn().len();
         claim(lines == 0 || lines < long + drawn, || {
-            format!("{lines} lines, {long} long sections delivering, {drawn} notices drawn")
+            format!("{lines} lines, {long} long sections in them, {drawn} notices drawn")
         })
     }
+}
+
+/// "A section's lots in it are those of the lines naming it as buyer or seller":
+/// whether they are those of a section list.
+fn lots_equal(lines: &[Entry], name: &str, list: &[u32]) -> Result<(), String> {
+    for (i, &wanted) in list.iter().enumerate() {
+        let names = |line: &&Entry| [line.buyer, line.seller].map(usize::from).contains(&i);
+        let named = lines.iter().filter(names);
+        let lots: u64 = named.map(|line| u64::from(line.lots)).sum();
+        claim(lots == u64::from(wanted), || {
+            format!("section {i}: {lots} lots in {name}, {wanted} in its list")
+        })?;
+    }
+    Ok(())
 }
 
 /// The trade of an event that is one.

@@ -16,24 +16,23 @@ struct Lent {
     lots: Vec<u32>,
     delivered: Vec<u32>,
     terminated: Vec<u32>,
+    lapsed: Vec<u32>,
 }
 
 impl Lent {
     /// Lists of these lengths, holding values no call writes.
     fn new(lengths: &Lengths) -> Lent {
         let [buyers, elevators, sellers, lots] = lengths.register;
+        let numbers = |length: usize| (0..length).map(|i| u32::MAX - i as u32).collect();
         Lent {
             margins: (0..lengths.margins).map(|i| i64::MIN + i as i64).collect(),
             buyers: vec![0xB1; buyers],
             elevators: vec![0xE1; elevators],
             sellers: vec![0xC1; sellers],
-            lots: (0..lots).map(|i| u32::MAX - i as u32).collect(),
-            delivered: (0..lengths.delivered)
-                .map(|i| u32::MAX - i as u32)
-                .collect(),
-            terminated: (0..lengths.terminated)
-                .map(|i| u32::MAX - i as u32)
-                .collect(),
+            lots: numbers(lots),
+            delivered: numbers(lengths.delivered),
+            terminated: numbers(lengths.terminated),
+            lapsed: numbers(lengths.lapsed),
         }
     }
 
@@ -46,6 +45,7 @@ impl Lent {
             lots: &mut self.lots,
             delivered: &mut self.delivered,
             terminated: &mut self.terminated,
+            lapsed: &mut self.lapsed,
         };
         event.call(book, &mut self.margins, lists)
     }
@@ -70,7 +70,21 @@ impl Lent {
             && self.lots[lines..] == lent.lots[lines..]
             && self.delivered[sections..] == lent.delivered[sections..]
             && self.terminated[sections..] == lent.terminated[sections..]
+            && self.lapsed[sections..] == lent.lapsed[sections..]
     }
+}
+
+/// The lines formed, "as before" (document 02, a): the register of the same book
+/// where no two sections are one person's, and so no line is removed.
+fn formed(book: &Book) -> Vec<Entry> {
+    let mut apart = book.clone();
+    let sections = apart.sections[..book.sections_held].iter_mut();
+    (0..)
+        .zip(sections)
+        .for_each(|(number, section)| section.participant = number);
+    let mut lists = Lent::new(&Lengths::FULL);
+    let counts = lists.make(&mut apart, &Event::Expiry);
+    lists.register(counts.expect("an expiry that is accepted").kept)
 }
 
 /// Makes one call and checks demand 1's last sentence: refused, "the book and
@@ -82,7 +96,7 @@ pub(super) fn make_checked(book: &mut Book, call: &Single, held: usize) -> Resul
     let answer = lists.make(book, &call.event);
     let (margins, lines, sections) = match (&answer, call.event) {
         (Ok(_), Event::Session { .. }) => (held, 0, 0),
-        (Ok(counts), Event::Expiry) => (0, counts.lines, held),
+        (Ok(counts), Event::Expiry) => (0, counts.kept, held),
         _ => (0, 0, 0),
     };
     if !lists.remains(&lent, margins, lines, sections) {
@@ -99,9 +113,11 @@ pub(super) fn make_checked(book: &mut Book, call: &Single, held: usize) -> Resul
         },
         Event::Expiry => Outcome::Expiry(Expiry {
             counts,
-            register: lists.register(counts.lines),
+            formed: formed(&before),
+            register: lists.register(counts.kept),
             delivered: lists.delivered[..held].to_vec(),
             terminated: lists.terminated[..held].to_vec(),
+            lapsed: lists.lapsed[..held].to_vec(),
         }),
         _ => Outcome::Done,
     };

@@ -1,5 +1,5 @@
 //! Demand 3 over a list of calls (00-demands, 3; document 01, "Over a list of
-//! calls").
+//! calls"; document 02, a, for lines that are removed).
 //!
 //! A history keeps what was called and what was answered. The claims are
 //! worked out from the accepted calls of the history alone; no book is asked.
@@ -8,8 +8,8 @@ pub mod block;
 mod claims;
 mod lent;
 
-use crate::reading::book::Book;
-use crate::reading::calls::{Counts, open};
+use crate::reading::book::{Book, SECTIONS};
+use crate::reading::calls::{Counts, REGISTER, open};
 use crate::reading::file::event::Event;
 use crate::reading::refusal::Refusal;
 use block::Block;
@@ -23,6 +23,18 @@ pub struct Lengths {
     pub register: [usize; 4],
     pub delivered: usize,
     pub terminated: usize,
+    pub lapsed: usize,
+}
+
+impl Lengths {
+    /// Of lists that are never short.
+    pub const FULL: Lengths = Lengths {
+        margins: SECTIONS,
+        register: [REGISTER; 4],
+        delivered: SECTIONS,
+        terminated: SECTIONS,
+        lapsed: SECTIONS,
+    };
 }
 
 /// A call with its values, and how long the lists lent with it are.
@@ -40,7 +52,7 @@ pub enum Call {
     Block(Block),
 }
 
-/// A line of the register as the four lists have it.
+/// A line as the four register lists have it.
 #[derive(Clone, Copy, Debug, PartialEq, Eq)]
 pub struct Entry {
     pub buyer: u8,
@@ -62,11 +74,15 @@ pub enum Outcome {
 #[derive(Clone, Debug, PartialEq, Eq)]
 pub struct Expiry {
     pub counts: Counts,
-    /// "The register is the lines written, from the start of the four lists:
-    /// all lines formed, which the answer counts."
+    /// "all lines formed, which the answer counts". The lists do not show those
+    /// removed.
+    pub formed: Vec<Entry>,
+    /// "The register is the lines written, from the start of the four lists":
+    /// the lines kept.
     pub register: Vec<Entry>,
     pub delivered: Vec<u32>,
     pub terminated: Vec<u32>,
+    pub lapsed: Vec<u32>,
 }
 
 /// A call made and its answer.

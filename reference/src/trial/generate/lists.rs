@@ -25,13 +25,13 @@ pub fn calls(seed: u64, file: &[u8]) -> Option<(Contract, Vec<Single>)> {
         calls.push(Single { event, lengths });
         let again = match event {
             Event::Session { .. } => lengths.margins < sections,
-            Event::Expiry => lengths != FULL,
+            Event::Expiry => lengths != Lengths::FULL,
             _ => false,
         };
         if again {
             calls.push(Single {
                 event,
-                lengths: FULL,
+                lengths: Lengths::FULL,
             });
         }
     }
@@ -91,19 +91,30 @@ fn uneven(random: &mut Random, mut block: Block) -> Block {
     block
 }
 
-/// Lists that are never short.
-pub const FULL: Lengths = Lengths {
-    margins: 128,
-    register: [REGISTER; 4],
-    delivered: 128,
-    terminated: 128,
-};
-
 /// Full lengths, or lengths of which one or more may be short by a little.
 fn lengths(random: &mut Random, sections: usize) -> Lengths {
-    if random.percent(80) {
-        return FULL;
+    match random.below(10) {
+        0 => near_all(random, sections),
+        1 => one_short(random, sections),
+        _ => Lengths::FULL,
     }
+}
+
+/// One list by section is short by one, and no other.
+fn one_short(random: &mut Random, sections: usize) -> Lengths {
+    let mut lengths = Lengths::FULL;
+    let list = match random.below(4) {
+        0 => &mut lengths.margins,
+        1 => &mut lengths.delivered,
+        2 => &mut lengths.terminated,
+        _ => &mut lengths.lapsed,
+    };
+    *list = sections.saturating_sub(1);
+    lengths
+}
+
+/// Each list is short by a little, fits or has a little more.
+fn near_all(random: &mut Random, sections: usize) -> Lengths {
     let mut near = |limit: usize| (limit + random.below(4)).saturating_sub(1 + random.below(2));
     Lengths {
         margins: near(sections),
@@ -115,5 +126,6 @@ fn lengths(random: &mut Random, sections: usize) -> Lengths {
         ],
         delivered: near(sections),
         terminated: near(sections),
+        lapsed: near(sections),
     }
 }

@@ -2,6 +2,7 @@
 
 use super::Contract;
 use super::contracts::Prices;
+use super::participants::Participants;
 use crate::reading::book::{ELEVATORS, SETTLEMENT_CODES, SectionCode};
 use crate::reading::file::event::Event;
 use crate::trial::random::Random;
@@ -133,17 +134,17 @@ fn sections(random: &mut Random, shape: &Shape, fates: &[Fate]) -> Vec<Event> {
     let mut numbers: Vec<u8> = (0..SETTLEMENT_CODES as u8).collect();
     random.shuffle(&mut numbers);
     let style = random.below(3);
+    let mut participants = Participants::new(random);
     let mut held = BTreeSet::new();
     let mut sections = Vec::new();
     for fate in fates {
         let code = new_code(random, style, &held);
         held.insert(code);
-        let any = random.bits() as u32;
         sections.push(Event::Section {
             settlement_code: random.pick(&numbers[..shape.settlement_codes]),
             seller: fate.seller,
             code,
-            participant: random.pick(&[0, 1, 2, 3, u32::MAX, any]),
+            participant: participants.next(random),
         });
     }
     sections

@@ -12,6 +12,7 @@ mod limits;
 pub mod lists;
 mod markets;
 mod medium;
+mod participants;
 mod sized;
 mod small;
 pub mod unruly;

@@ -27,6 +27,11 @@ pub const LIMITS: &[Turn] = &[
             .any(|m| m.abs() > 10_000_000_000_000_000)
     }),
     ("300 lines or more", |v| v.settlement.lines().count() >= 300),
+    ("300 lines kept or more", |v| v.removal.kept() >= 300),
+    ("100 lines removed or more", |v| v.removal.removed() >= 100),
+    ("1,000,000 lots lapsed", |v| {
+        v.removal.any_section(|l| l.lapsed == 1_000_000)
+    }),
     ("no section", |v| v.book.sections_held == 0),
 ];
 

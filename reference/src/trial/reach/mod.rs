@@ -8,6 +8,7 @@ mod margins;
 mod outside;
 mod passes;
 pub mod refused;
+pub mod removed;
 #[cfg(test)]
 mod tests;
 pub mod turns;
@@ -19,6 +20,7 @@ use crate::reading::refusal::Refusal;
 use crate::trial::generate::Kind;
 use limits::LIMITS;
 use refused::{NUMBERS, TWO_AT_ONCE, also_holding};
+use removed::REMOVED;
 use std::collections::BTreeMap;
 use std::fmt;
 use turns::{TURNS, Turn};
@@ -34,6 +36,7 @@ pub struct Reach {
     pub two_at_once: BTreeMap<(u8, u8), u64>,
     pub turns: BTreeMap<&'static str, u64>,
     pub lines: u64,
+    pub removed: u64,
     pub most_lines: usize,
     pub most_pairs: usize,
     pub bytes: u64,
@@ -57,9 +60,10 @@ impl Reach {
         self.accepted += 1;
         let lines = view.settlement.lines().count();
         self.lines += lines as u64;
+        self.removed += view.removal.removed() as u64;
         self.most_lines = self.most_lines.max(lines);
         self.most_pairs = self.most_pairs.max(view.settlement.pairs());
-        for (name, taken) in TURNS.iter().chain(LIMITS) {
+        for (name, taken) in turns() {
             *self.turns.entry(name).or_default() += u64::from(taken(&view));
         }
     }
@@ -88,13 +92,13 @@ impl Reach {
             .iter()
             .filter(both)
             .map(|(a, b)| format!("{a} before {b}"));
-        let turns = TURNS
-            .iter()
-            .chain(LIMITS)
-            .filter(turn)
-            .map(|turn| turn.0.to_string());
+        let turns = turns().filter(turn).map(|turn| turn.0.to_string());
         numbers.chain(pairs).chain(turns).collect()
     }
+}
+
+fn turns() -> impl Iterator<Item = &'static Turn> {
+    TURNS.iter().chain(REMOVED).chain(LIMITS)
 }
 
 impl fmt::Display for Reach {
@@ -109,8 +113,8 @@ impl fmt::Display for Reach {
         writeln!(f, "accepted {}", self.accepted)?;
         writeln!(
             f,
-            "  lines {}, most in one {}, most pairs {}",
-            self.lines, self.most_lines, self.most_pairs
+            "  lines {}, most in one {}, most pairs {}, lines removed {}",
+            self.lines, self.most_lines, self.most_pairs, self.removed
         )?;
         for number in NUMBERS {
             writeln!(
@@ -129,7 +133,7 @@ impl fmt::Display for Reach {
             writeln!(f, "  {}", row.join(", "))?;
         }
         writeln!(f, "accepted files with:")?;
-        for (name, _) in TURNS.iter().chain(LIMITS) {
+        for (name, _) in turns() {
             writeln!(f, "  {name}: {}", self.turns.get(name).unwrap_or(&0))?;
         }
         match self.missing().as_slice() {

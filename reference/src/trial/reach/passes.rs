@@ -196,7 +196,7 @@ impl View {
             section.code = SectionCode([i as u8; 7]);
         }
         let other = settle(&numbered);
-        !other.lines().eq(self.settlement.lines()) || other.delivered != self.settlement.delivered
+        !other.lines().eq(self.settlement.lines()) || other.left != self.settlement.left
     }
 
     pub(super) fn met_twice(&self) -> bool {

@@ -69,6 +69,15 @@ fn steps_2_and_3_lot_by_lot_give_the_same() {
 }
 
 #[test]
+fn the_lines_kept_are_the_register_and_all_are_within_the_limit() {
+    for view in accepted_views() {
+        let kept = view.removal.lines.iter().filter(|line| line.is_kept());
+        assert!(kept.map(|kept| &kept.line).eq(&view.settlement.register));
+        assert!(!view.removal.passes_limit(false, false));
+    }
+}
+
+#[test]
 fn a_mirrored_book_turns_the_order_of_its_codes() {
     for view in accepted_views().take(50) {
         let mirror = view.mirror();

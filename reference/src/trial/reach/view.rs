@@ -5,12 +5,14 @@ use crate::reading::expiry::Settlement;
 use crate::reading::file::Reader;
 use crate::reading::file::event::Event;
 use crate::reading::file::whole::Accepted;
+use crate::trial::removal::Removal;
 
 /// An accepted file and what it came to.
 pub struct View {
     pub events: Vec<Event>,
     pub book: Book,
     pub settlement: Settlement,
+    pub removal: Removal,
     pub margin_sums: Vec<i64>,
 }
 
@@ -21,6 +23,7 @@ impl View {
         let read = |_| reader.read().event.expect("an event of an accepted file");
         View {
             events: (0..accepted.events).map(read).collect(),
+            removal: Removal::new(&accepted.book, &accepted.settlement),
             book: accepted.book,
             settlement: accepted.settlement,
             margin_sums: accepted.margin_sums,

@@ -5,13 +5,13 @@ use Rattle.calls_listing.proofs.lots.sections.Statement.{statement}
 use Rattle.calls_listing.proofs.lots.sections.Tie as tie
 
 abbrev Inv-loop : tie.InvT-loop
-Inv-loop codes delivered terminated held out₀ at next₀ i₀ out next i = Rows (λ (j : ℕ). lotsFields codes j (entry delivered j) (entry terminated j) 10) held out₀ at out next i
+Inv-loop codes delivered terminated lapsed held out₀ at next₀ i₀ out next i = Rows (λ (j : ℕ). lotsFields codes j (entry delivered j) (entry terminated j) (entry lapsed j) 10) held out₀ at out next i
 
 abbrev μ-loop : tie.MeasureT-loop
-μ-loop codes delivered terminated held out₀ at next₀ i₀ out next i = held - i
+μ-loop codes delivered terminated lapsed held out₀ at next₀ i₀ out next i = held - i
 
 loop-holds : tie.Need-loop-holds Inv-loop μ-loop
-loop-holds c = rows-start _ _ _ _ (c .before .before .before .before .pre .1)
+loop-holds c = rows-start _ _ _ _ (c .before .before .before .before .before .pre .1)
 
 mul-lots : tie.Need-mul-lots Inv-loop μ-loop
 mul-lots c = search needs
@@ -25,11 +25,21 @@ mul-lots-2 c = search needs
 shared-slice-read-lots-2 : tie.Need-shared-slice-read-lots-2 Inv-loop μ-loop
 shared-slice-read-lots-2 c = omega arith
 
+mul-lots-3 : tie.Need-mul-lots-3 Inv-loop μ-loop
+mul-lots-3 c = search needs
+
+shared-slice-read-lots-3 : tie.Need-shared-slice-read-lots-3 Inv-loop μ-loop
+shared-slice-read-lots-3 c = omega arith
+
+-- the turn that a row is written in
+abbrev turn : tie.After-lots-arg Inv-loop μ-loop → tie.In-loop Inv-loop μ-loop
+turn c = c .before .before .before .before
+
 lots-requires : tie.Need-lots-requires Inv-loop μ-loop
 lots-requires c κs =
-    let inside = c .before .before .before in
-    let start = c .before .before .before .before .before .before .before .before .before in
-    ((start .pre .0 .0, omega arith), rows-room (inside .before .loop .inv) (inside .loop-test .taken))
+    let at = turn c .before in
+    let start = at .before .before .before .before .before .before in
+    ((start .pre .0 .0, omega arith), rows-room (at .loop .inv) (turn c .loop-test .taken))
 
 add-i : tie.Need-add-i Inv-loop μ-loop
 add-i c = omega arith
@@ -38,7 +48,9 @@ loop-less : tie.Need-loop-less Inv-loop μ-loop
 loop-less c = omega arith
 
 loop-again : tie.Need-loop-again Inv-loop μ-loop
-loop-again c = rows-next (c .before .before .before .before .before .before .before .loop .inv) (c .before .before .before .before .before .before .loop-test .taken) (c .before .before .lots .ensures)
+loop-again c =
+    let written = c .before .before in
+    rows-next (turn (written .before) .before .loop .inv) (turn (written .before) .loop-test .taken) (written .lots .ensures)
 
 same-length : tie.Need-same-length Inv-loop μ-loop
 same-length c = rows-length (c .before .loop .inv)
@@ -57,6 +69,8 @@ sections-spec =
     shared-slice-read-lots
     mul-lots-2
     shared-slice-read-lots-2
+    mul-lots-3
+    shared-slice-read-lots-3
     lots-requires
     add-i
     loop-less

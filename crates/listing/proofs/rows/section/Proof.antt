@@ -5,8 +5,8 @@ use Rattle.listing.proofs.Laws.Parts.{Begun, begun, section-parts, room
 use Rattle.listing.proofs.rows.section.Statement.{statement}
 use Rattle.listing.proofs.rows.section.Tie as tie
 
-start : (c : tie.Start) → Begun (now (c .args .out)) (c .args .at) (sectionRowOf (now (c .args .codes)) (c .args .i) (c .args .delivered) (c .args .terminated) (c .args .sum)) (now (c .args .out)) (c .args .at) (lotsFields (now (c .args .codes)) (c .args .i) (c .args .delivered) (c .args .terminated) 32 ∷ field (signedDecimal (c .args .sum)) 10 ∷ [])
-start c = begun _ _ _ _ (section-parts (now (c .args .codes)) (c .args .i) _ _ (c .args .sum)) (c .pre .1)
+start : (c : tie.Start) → Begun (now (c .args .out)) (c .args .at) (sectionRowOf (now (c .args .codes)) (c .args .i) (c .args .delivered) (c .args .terminated) (c .args .lapsed) (c .args .sum)) (now (c .args .out)) (c .args .at) (lotsFields (now (c .args .codes)) (c .args .i) (c .args .delivered) (c .args .terminated) (c .args .lapsed) 32 ∷ field (signedDecimal (c .args .sum)) 10 ∷ [])
+start c = begun _ _ _ _ (section-parts (now (c .args .codes)) (c .args .i) _ _ _ (c .args .sum)) (c .pre .1)
 
 back : (s : tie.Start) → toZ w64 (ofZ w64 (s .args .sum)) ≡ s .args .sum
 back s = toZ-ofZ (s .fits .sum)

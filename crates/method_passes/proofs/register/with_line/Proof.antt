@@ -22,7 +22,9 @@ add-next : tie.Need-add-next
 add-next c = search needs
 
 returns : tie.Need-returns
-returns c = lines-more (c .args .g) (c .args .buyer) (c .args .elevator) (c .args .seller) (c .args .lots) (c .pre) (search needs) (search needs) (search needs) (search needs)
+returns c =
+    lines-more (c .args .g) (c .args .buyer) (c .args .elevator) (c .args .seller) (c .args .lots) (c .pre)
+    (record { buyers = search needs; elevators = search needs; sellers = search needs; lots = search needs })
 
 pub with-line-spec : {M : Type 1} → statement M
 with-line-spec =

@@ -3,6 +3,7 @@
 use super::super::contracts::{Prices, contract};
 use super::super::faults::{faulty, lots_that_fit, malformed, wild_event, wild_notice, wild_trade};
 use super::super::markets::new_code;
+use super::super::participants::Participants;
 use super::super::{Contract, Draft, Raw};
 use crate::reading::book::{Book, SessionKind};
 use crate::reading::calls::open;
@@ -18,6 +19,7 @@ pub(super) struct Growing<'a> {
     draft: Draft,
     replay: Replay,
     prices: Prices,
+    participants: Participants,
 }
 
 impl Growing<'_> {
@@ -30,11 +32,13 @@ impl Growing<'_> {
     pub(super) fn in_contract(random: &mut Random, contract: Contract) -> Growing<'_> {
         let Contract { lot, w, r } = contract;
         let prices = Prices::new(random, r);
+        let participants = Participants::new(random);
         Growing {
             random,
             draft: Draft::new(contract, &[]),
             replay: Replay::new(open(lot, w, r).1),
             prices,
+            participants,
         }
     }
 
@@ -76,7 +80,7 @@ impl Growing<'_> {
                 settlement_code: self.random.from_to(0, 3) as u8,
                 seller: self.random.percent(80),
                 code: new_code(self.random, 0, &held),
-                participant: self.random.bits() as u32,
+                participant: self.participants.next(self.random),
             };
             self.add(section);
         }
