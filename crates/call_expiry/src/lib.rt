@@ -1,5 +1,5 @@
 // The expiry: which obligations lapse, and who sells wheat to whom at which elevator.
-ghost use Rattle.rules.specs.Words.{_≡_, true, _||_, ltb, length};
+ghost use Rattle.rules.specs.Words.{_≡_, true, _||_, ltb};
 ghost use Rattle.rules.specs.Book.{good};
 ghost use Rattle.rules.specs.Calls.{first};
 ghost use Rattle.rules.specs.Expiry.Call;

@@ -12,7 +12,7 @@ use Rattle.rules.specs.Expiry.{isLong}
 use Rattle.rules.specs.Expiry.Passes.{Line}
 use Rattle.rules.specs.Expiry.Call.{Lists, remaining, lines, kept, lapsed, delivered, expiryRefusals}
 use Rattle.rules.specs.Expiry.SamePerson.{lotsNaming}
-use Rattle.rules.specs.History.{Trade, net, Delivered, Register, registerLines, drawnLots, lineLimit}
+use Rattle.rules.specs.History.{Trade, net, Delivered, Register, drawnLots, lineLimit}
 use Rattle.book_laws.proofs.Good.{Good, facts}
 use Rattle.book_laws.proofs.Held.{held-length, filed-length, held-codes, held-told}
 use Rattle.method_laws.proofs.Shares.{Told}

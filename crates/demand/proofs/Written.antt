@@ -3,7 +3,7 @@ use Rattle.numbers.proofs.Words.{ℕ, _+_, _<_, arith, _≡_, ap, ap₂, _∙_,
 use Rattle.rules.specs.declared.book.{Book.Book, Section.Section, Notice.Notice}
 use Rattle.numbers.proofs.Changed.{read-at}
 use Rattle.numbers.proofs.Ranges.{less-at, Left, left-all, left-less}
-use Rattle.rules.specs.Book.{heldSections, filedNotices, noticeAt, sectionAt, sectionOf, sectionOfNoughts, positionOf}
+use Rattle.rules.specs.Book.{heldSections, filedNotices, sectionAt, sectionOf, sectionOfNoughts, positionOf}
 use Rattle.rules.specs.Calls.{first, handedOut, count}
 use Rattle.rules.specs.Expiry.{size}
 use Rattle.rules.specs.Expiry.Failing.{failing}

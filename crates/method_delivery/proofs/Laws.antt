@@ -1,5 +1,5 @@
 -- The columns of a register's lines.
-use Rattle.numbers.proofs.Words.{ℕ, _≡_, sym, map-map, counted, entry, listed}
+use Rattle.numbers.proofs.Words.{_≡_, sym, map-map, counted, entry, listed}
 use Rattle.rules.specs.Expiry.Passes.{Line, buyersOf, elevatorsOf, sellersOf, lotsOf}
 use Rattle.method_passes.specs.declared.register.{Register.Register}
 use Rattle.method_passes.specs.Formed.{lineIn, linesIn}

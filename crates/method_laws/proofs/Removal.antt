@@ -1,5 +1,5 @@
 -- Lines taken out: the lots of a section in the lines kept are those it delivers, and what lapses of it was bought or sold in the others (document 02, a).
-use Rattle.numbers.proofs.Words.{ℕ, _+_, _-_, _≤_, _<_, arith, _≡_, refl, sym, ap, _∙_, Bool, true, false, not, cond, _&&_, _||_, List, [], _∷_, map, ⊎-elim, eqb, length, pos, listed, entry, less, passing, gathered, total, totalℤ}
+use Rattle.numbers.proofs.Words.{ℕ, _+_, _≤_, _<_, arith, _≡_, refl, ap, _∙_, Bool, true, false, not, cond, _&&_, _||_, List, [], _∷_, map, ⊎-elim, eqb, length, pos, entry, passing, gathered, totalℤ}
 use Rattle.rules.specs.declared.book.{Section.Section, Notice.Notice}
 use Rattle.numbers.proofs.Ranges.{listed-at, less-at}
 use Rattle.rules.specs.Book.{elevators, settlementCodes, positionOf, sectionOf, noticeOf}

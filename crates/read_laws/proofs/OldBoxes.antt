@@ -1,5 +1,5 @@
 -- Old boxes: where no line of an accepted file is taken out, its listing is document 01's with a column of noughts.
-use Rattle.numbers.proofs.Words.{ℕ, _<_, arith, _≡_, sym, ap, _∙_, Bool, true, false, List, [], _∷_, _++_, flatMap, eqb, eq-eqb, length, counted, entry, entryℤ}
+use Rattle.numbers.proofs.Words.{ℕ, _<_, arith, _≡_, sym, ap, _∙_, Bool, true, false, List, [], _∷_, _++_, flatMap, eq-eqb, length, counted, entry, entryℤ}
 use Rattle.numbers.specs.Text.{bytes, decimal, signedDecimal}
 use Rattle.rules.specs.declared.book.{Book.Book, Section.Section, Notice.Notice}
 use Rattle.numbers.proofs.Passing.{flatMap-same}
