@@ -159,9 +159,8 @@ fn lines_are_removed_inside_and_outside_and_their_lots_summed() {
 }
 
 /// One elevator, buyers and sellers of one lot each: the ties put A000001 with
-/// B000001 and A000002 with B000002. Each is one person's; crosswise none would be.
-#[test]
-fn removed_lots_are_not_put_together_again() {
+/// B000001 and A000002 with B000002.
+fn two_by_two(participants: &[u32; 4]) -> Expired {
     let rows = [
         (1, "A000001", 1, true),
         (1, "A000002", 1, true),
@@ -169,22 +168,21 @@ fn removed_lots_are_not_put_together_again() {
         (1, "B000002", -1, true),
     ];
     let notices = [(2, 0, 1), (3, 0, 1)];
-    let expired = expired(&rows, &notices, &[1, 2, 1, 2]);
+    expired(&rows, &notices, participants)
+}
+
+/// Each line is one person's; crosswise none would be.
+#[test]
+fn removed_lots_are_not_put_together_again() {
+    let expired = two_by_two(&[1, 2, 1, 2]);
     assert_eq!(expired.counts, counts(2, 2, 0));
     assert_eq!(expired.lapsed, [1, 1, 1, 1]);
 }
 
-/// The same with the persons crosswise: both buy and sell, in different lines.
+/// With the persons crosswise both buy and sell, in different lines.
 #[test]
 fn a_person_who_buys_and_sells_in_different_lines_keeps_both() {
-    let rows = [
-        (1, "A000001", 1, true),
-        (1, "A000002", 1, true),
-        (1, "B000001", -1, true),
-        (1, "B000002", -1, true),
-    ];
-    let notices = [(2, 0, 1), (3, 0, 1)];
-    let expired = expired(&rows, &notices, &[1, 2, 2, 1]);
+    let expired = two_by_two(&[1, 2, 2, 1]);
     assert_eq!(expired.counts, all_kept(2, 2));
     assert_eq!(expired.lapsed, [0, 0, 0, 0]);
 }
