@@ -16,7 +16,7 @@ use Rattle.rules.specs.Expiry.Passes.{Line}
 use Rattle.rules.specs.Expiry.Call.{registerPlaces, dayLast, kept, expiryRefusals, afterExpiry, expiryWritten, expiryAnswer}
 use Rattle.rules.specs.History.{Single, Session as Held, answerOf, sessionOf}
 use Rattle.rules.specs.File.{wordAt, eventsIn, misshapen, foundAt, readAt, Lent, Run, stopped, callOf, ownNumber, summed, afterEvent, readFrom, readWhole, fileAnswer, fileLists}
-use Rattle.rules.specs.Listing.{row, sectionRow, listingOf, printedWith, noughts, printed}
+use Rattle.rules.specs.Listing.{row, sectionRow, listingBytes, listingOf, printedWith, noughts, printed}
 use Rattle.book_laws.proofs.ExpiryLists.{register-rows, delivered-written, terminated-written, lapsed-written}
 use Rattle.book_laws.proofs.Good.{facts}
 use Rattle.book_laws.proofs.Kept.{call-answered}
@@ -225,7 +225,7 @@ module _ (run : Run) (fits : Fits run) (none : run .number ≡ 0) where
         )
 
     listing-same : listingOf (fileAnswer run) (fileLists run l) ≡ listingOf (fileAnswer run) (fileLists run m)
-    unfolding listingOf fileAnswer fileLists
+    unfolding listingBytes fileAnswer fileLists
     listing-same =
         let lists : (x : Lent) → fileLists run x ≡ written x = λ x. ap (λ (n : ℕ). handedOut n (written x) x) none in
         let counted-lines : fileAnswer run .kept ≡ length register = ap (λ (n : ℕ). count n register) none in

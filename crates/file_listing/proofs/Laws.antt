@@ -53,7 +53,7 @@ module _ (file : List ℕ) (lent : Lent) (e : readWhole file lent .number ≡ 0)
         line = line-limits b book-good (lent .lists);
         section = λ i h.
             let lots = section-limits b book-good (lent .lists) i h in
-            (lots .0, lots .1, lots .2, omega (arith, few-events, sums-within run (whole-sound file lent e) i, ap natAbs (ap (λ (n : ℕ). entryℤ (handed n .sums) i) (sym e) ∙ sums-handed file lent e i h)));
+            (omega (arith, lots .0), omega (arith, lots .1), omega (arith, lots .2), omega (arith, few-events, sums-within run (whole-sound file lent e) i, ap natAbs (ap (λ (n : ℕ). entryℤ (handed n .sums) i) (sym e) ∙ sums-handed file lent e i h)));
       })
 
 -- what a read prints, by its number (01, Program, 1 and 2)
@@ -73,8 +73,8 @@ module _ (file : List ℕ) (lent : Lent) where
   prints-row ne = ap (byNumber (readWhole file lent)) (ne-eqb _ 0 ne)
 
 -- what is said of a text's bytes in the buffer is said of the same text
-pub said : {text row bytes : List ℕ} {n : ℕ} → text ≡ row → (n ≡ length row) × (bytes ≡ over row (replicate 21_313 0)) → (n ≡ length text) × (bytes ≡ over text (replicate 21_313 0))
-said {bytes = bytes} {n = n} e = subst (λ (l : List ℕ). (n ≡ length l) × (bytes ≡ over l (replicate 21_313 0))) (sym e)
+pub said : {text row bytes : List ℕ} {n : ℕ} → text ≡ row → (n ≡ length row) × (bytes ≡ over row (replicate 22_465 0)) → (n ≡ length text) × (bytes ≡ over text (replicate 22_465 0))
+said {bytes = bytes} {n = n} e = subst (λ (l : List ℕ). (n ≡ length l) × (bytes ≡ over l (replicate 22_465 0))) (sym e)
 
 -- The program's read, which lends lists of noughts (01, Program, 1)
 module _ (file : List ℕ) {a : FileAnswer} (answer : a ≡ fileAnswer (readWhole file noughts)) where

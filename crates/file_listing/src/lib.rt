@@ -16,7 +16,7 @@ pub struct Listing {
 // A refused file: its number and its place (01, Program, 2).
 fn refused(number: u8, place: usize) -> Listing
     ensures { λ r. ⌜ r .length ≡ length (refusedRow number place) ⌝ }
-    ensures { λ r. ⌜ r .bytes ≡ over (refusedRow number place) (replicate 21_313 0) ⌝ }
+    ensures { λ r. ⌜ r .bytes ≡ over (refusedRow number place) (replicate 22_465 0) ⌝ }
 {
     let mut bytes = [0; LISTING_BYTES_MOST];
     let end = listing::refused(number, place, &mut bytes);
@@ -26,7 +26,7 @@ fn refused(number: u8, place: usize) -> Listing
 // What the program prints of a file, whatever its bytes (01, Program, 1 and 2 and 3; 01, Bound, a).
 pub fn printed(file: &[u8]) -> Listing
     ensures { λ r. ⌜ r .length ≡ length (Program.printed (now (file .entry))) ⌝ }
-    ensures { λ r. ⌜ r .bytes ≡ over (Program.printed (now (file .entry))) (replicate 21_313 0) ⌝ }
+    ensures { λ r. ⌜ r .bytes ≡ over (Program.printed (now (file .entry))) (replicate 22_465 0) ⌝ }
 {
     let mut buyers = [0; REGISTER_PLACES];
     let mut elevators = [0; REGISTER_PLACES];

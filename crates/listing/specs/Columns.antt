@@ -2,7 +2,8 @@
 use Rattle.rules.specs.Words.{ℕ, _*_, List, [], _∷_, _++_, flatMap, counted, entry, entryℤ, ℤ, pos, take, drop, decimal, signedDecimal, bytes}
 use Rattle.rules.specs.declared.{units.Tonnes.Tonnes, book.Book.Book}
 use Rattle.rules.specs.Units.{tonnesOf}
-use Rattle.rules.specs.Listing.{row, listingOf}
+use Rattle.rules.specs.File.{Lent}
+use Rattle.rules.specs.Listing.{row, listingBytes}
 
 -- seven bytes of the section codes: those of section number i (01, Forms, 7)
 abbrev pub codeAt : List ℕ → ℕ → List ℕ
@@ -40,8 +41,11 @@ abbrev pub sectionRows : List ℕ → List ℕ → List ℕ → List ℕ → Lis
 sectionRows codes delivered terminated lapsed sums held =
     flatMap (λ (i : ℕ). sectionRowOf codes i (entry delivered i) (entry terminated i) (entry lapsed i) (entryℤ sums i)) (counted 0 held)
 
--- the listing of a book and so many lines kept, the lists by name
+-- the lists by name, and the listing of a book and so many lines
+abbrev pub lentOf : List ℕ → List ℕ → List ℕ → List ℕ → List ℕ → List ℕ → List ℕ → List ℤ → Lent
+lentOf buyers elevators sellers lots delivered terminated lapsed sums =
+    record { lists = record { buyers = buyers; elevators = elevators; sellers = sellers; lots = lots; delivered = delivered; terminated = terminated; lapsed = lapsed }; sums = sums }
+
 abbrev pub listing : Book → ℕ → List ℕ → List ℕ → List ℕ → List ℕ → List ℕ → List ℕ → List ℕ → List ℤ → List ℕ
-listing b kept buyers elevators sellers lots delivered terminated lapsed sums =
-    listingOf (record { number = 0; place = 0; pairs = 0; lines = kept; kept = kept; book = b })
-    (record { lists = record { buyers = buyers; elevators = elevators; sellers = sellers; lots = lots; delivered = delivered; terminated = terminated; lapsed = lapsed }; sums = sums })
+listing b lines buyers elevators sellers lots delivered terminated lapsed sums =
+    listingBytes b lines (lentOf buyers elevators sellers lots delivered terminated lapsed sums)

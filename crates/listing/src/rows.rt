@@ -19,7 +19,7 @@ pub fn head(kept: usize, out: &mut [u8], at: usize) -> usize
 }
 
 // Lots become tonnes by the lot size alone (01, Head, 4; 01, Forms, 4).
-fn tonnes(lot: Tonnes, lots: Lots) -> Tonnes
+pub fn tonnes(lot: Tonnes, lots: Lots) -> Tonnes
     requires { ⌜ (lot .0 ≤ 1_000) × (natAbs (lots .0) ≤ 1_000_000) ⌝ }
     ensures { λ r. ⌜ r ≡ Units.tonnesOf lot lots ⌝ }
 {

@@ -32,11 +32,11 @@ module _ (b : Book) (book : Good b) (before : Lists) where
   held = held-length b (book .section-places) (book .held)
 
   -- each line of the register (01, Expiry, 6.3; 01, Expiry call, 2)
-  pub line-limits : (i : ℕ) → i < length (kept ss ns) → (entry (after .buyers) i < b .held) × (entry (after .elevators) i ≤ 31) × (entry (after .sellers) i < b .held) × (entry (after .lots) i ≤ 1_000_000)
+  pub line-limits : (i : ℕ) → i < length (kept ss ns) → (entry (after .buyers) i < b .held) × (entry (after .elevators) i ≤ 31) × (entry (after .sellers) i < b .held) × (entry (after .lots) i ≤ 1_000_000) × (0 < entry (after .lots) i)
   line-limits i h =
       let l : register.Within (length ss) 1_000_000 (lineOf after i) =
       subst (register.Within (length ss) 1_000_000) (line-written b before i h) (register.kept-within ss ns 1_000_000 (λ k j. omega (arith, held, filed-good b book k j .section)) (λ k j. filed-good b book k j .lots) i h) in
-      (omega (arith, held, l .buyer), omega (arith, l .elevator), omega (arith, held, l .seller), l .lots)
+      (omega (arith, held, l .buyer), omega (arith, l .elevator), omega (arith, held, l .seller), l .lots, l .some)
 
   -- no more of a section is delivered, terminated or lapsed than its position has (01, Expiry, 1.2; 02, a, 5)
   pub section-limits : (i : ℕ) → i < b .held → (entry (after .delivered) i ≤ 1_000_000) × (entry (after .terminated) i ≤ 1_000_000) × (entry (after .lapsed) i ≤ 1_000_000)

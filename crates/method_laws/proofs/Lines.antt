@@ -1,4 +1,4 @@
--- The lines of a register: each is of sections held, at an elevator, and of no more lots than a notice has.
+-- The lines of a register: each is of sections held, at an elevator, of some lots and of no more than a notice has.
 use Rattle.numbers.proofs.Words.{ℕ, zero, suc, _-_, _≤_, _<_, min, arith, _≡_, refl, sym, ap, _∙_, Bool, true, false, cond, ⊎-elim, List, [], _∷_, map, flatMap, eqb, ltb, leb, length, getD, set, length-set, length-map, List·getD-map, lt-ltb, ltb-true, le-leb, leb-true, eqb-false, natAbs, _and_, every, listed, counted, entry, less}
 use Rattle.rules.specs.declared.book.{Section.Section, Notice.Notice}
 use Rattle.numbers.proofs.Tests.{both, together, below-or-not}
@@ -16,16 +16,17 @@ use Rattle.rules.specs.Expiry.Call.{remaining, passes, lines, kept}
 use Rattle.method_laws.proofs.Elevators.{elevators-length}
 use Rattle.method_laws.proofs.Drawing.{drawn-within}
 
--- a line of two sections below a number, at an elevator, of at most so many lots
+-- a line of two sections below a number, at an elevator, of one lot or more and of at most so many
 pub record Within (sections most : ℕ) (l : Line) : Type 0 where
   pub buyer : l .buyer < sections
   pub elevator : l .elevator < elevators
   pub seller : l .seller < sections
   pub lots : l .lots ≤ most
+  pub some : 0 < l .lots
 
 -- the same as a test, and of a pair
 abbrev lineKnown : ℕ → ℕ → Line → Bool
-lineKnown sections most l = ltb (l .buyer) sections and ltb (l .elevator) elevators and ltb (l .seller) sections and leb (l .lots) most
+lineKnown sections most l = ltb (l .buyer) sections and ltb (l .elevator) elevators and ltb (l .seller) sections and leb (l .lots) most and ltb 0 (l .lots)
 
 abbrev pairKnown : ℕ → Pair → Bool
 pairKnown sections q = ltb (q .buyer) sections and ltb (q .elevator) elevators
@@ -104,7 +105,7 @@ module _ (lower : ℕ → ℕ → Bool) (sellers stands : List ℕ) (sections mo
           let above = eqb-false amount 0 some in
           let of-pair = both (ltb (pair .buyer) sections) (ltb (pair .elevator) elevators) (pair-known above) in
           let place : k < length stands = omega (arith, listed-length (length stands) (λ (j : ℕ). cond (eqb (entry stands j) (pair .elevator)) (entry left j) 0), entry-place there k (omega (arith, above))) in
-          together (together (of-pair .0) (together (of-pair .1) (together (lt-ltb (entry sellers k) sections (sold k place)) (le-leb amount most (omega (arith, within, small k))))))
+          together (together (of-pair .0) (together (of-pair .1) (together (lt-ltb (entry sellers k) sections (sold k place)) (together (le-leb amount most (omega (arith, within, small k))) (lt-ltb 0 amount (omega (arith, above)))))))
           (later (every-set (pairKnown sections) ps p _ known (pair-known above)) (λ j. omega (arith, off-entry left k amount within j, small j)))
 
 -- every line of a list of passes is such a line where those of each pass are
@@ -170,8 +171,9 @@ module _ (ss : List Section) (ns : List Notice) (most : ℕ) (sections : (k : �
       let l : Line = getD ls i blank in
       let buyer = both (ltb (l .buyer) (length ss)) _ (every-at known ls i _ all h) in
       let elevator = both (ltb (l .elevator) elevators) _ (buyer .1) in
-      let seller = both (ltb (l .seller) (length ss)) (leb (l .lots) most) (elevator .1) in
-      record { buyer = ltb-true _ _ (buyer .0); elevator = ltb-true _ _ (elevator .0); seller = ltb-true _ _ (seller .0); lots = leb-true _ _ (seller .1) }
+      let seller = both (ltb (l .seller) (length ss)) _ (elevator .1) in
+      let lots = both (leb (l .lots) most) (ltb 0 (l .lots)) (seller .1) in
+      record { buyer = ltb-true _ _ (buyer .0); elevator = ltb-true _ _ (elevator .0); seller = ltb-true _ _ (seller .0); lots = leb-true _ _ (lots .0); some = ltb-true _ _ (lots .1) }
 
   pub line-within : (i : ℕ) → i < length (lines ss ns) → Within (length ss) most (getD (lines ss ns) i blank)
   line-within = within (lines ss ns) all-known

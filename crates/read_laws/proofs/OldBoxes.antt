@@ -8,7 +8,7 @@ use Rattle.rules.specs.Calls.{count}
 use Rattle.rules.specs.Expiry.SamePerson.{removedOf}
 use Rattle.rules.specs.Expiry.Call.{remaining, terminated, lines, kept}
 use Rattle.rules.specs.File.{Lent, Run, readWhole, fileAnswer, fileLists}
-use Rattle.rules.specs.Listing.{row, rowOf, lineRow, sectionRow, listingOf, printedWith}
+use Rattle.rules.specs.Listing.{row, rowOf, lineRow, sectionRow, listingBytes, listingOf, printedWith}
 use Rattle.rules.specs.OldBoxes.{listingBefore, OldBoxes}
 use Rattle.book_laws.proofs.ExpiryLists.{all-kept, none-lapsed, all-delivered, register-rows, delivered-written, terminated-written, lapsed-written}
 use Rattle.book_laws.proofs.Good.{facts}
@@ -63,7 +63,7 @@ module _ (file : List ℕ) (lent : Lent) (e : readWhole file lent .number ≡ 0)
     parts n rows sections = row (bytes "register" ∷ decimal n ∷ []) ++ rows ++ sections
 
     listing-is : printedWith file lent ≡ listingBefore (decimal 0 ∷ []) b (run .sums)
-    unfolding printedWith listingOf fileAnswer listingBefore
+    unfolding printedWith listingBytes fileAnswer listingBefore
     listing-is =
         ap shown (eq-eqb (run .number) 0 e)
         ∙ (λ k. parts (lines-counted k) (line-rows k) (flatMap-same _ _ 0 (b .held) (λ i h. section-row i (omega (arith, h))) k))

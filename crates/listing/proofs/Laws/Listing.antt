@@ -6,7 +6,7 @@ use Rattle.rules.specs.Book.{sectionAt}
 use Rattle.rules.specs.Units.{tonnesOf}
 use Rattle.rules.specs.Expiry.Call.{Lists}
 use Rattle.rules.specs.File.{Lent}
-use Rattle.rules.specs.Listing.{row, lineRow, sectionRow, listingOf}
+use Rattle.rules.specs.Listing.{row, lineRow, sectionRow, listingBytes, listingOf}
 use Rattle.listing.specs.Columns.{codeAt, headRow, lineRowOf, sectionRowOf, listing}
 use Rattle.listing.proofs.Laws.Parts.{joined}
 use Rattle.listing.proofs.Laws.Rows.{texts, texts-same}
@@ -40,7 +40,7 @@ module _ (b : Book) (kept : ℕ) (buyers elevators sellers lots delivered termin
         ap (λ (x : List ℕ). row (x ∷ decimal (entry delivered i) ∷ decimal (entry terminated i) ∷ decimal (entry lapsed i) ∷ signedDecimal (entryℤ sums i) ∷ [])) (same i (omega (arith, h, held)))
 
     pub listing-parts : listing b kept buyers elevators sellers lots delivered terminated lapsed sums ≡ joined parts
-    unfolding listingOf
+    unfolding listingBytes
     listing-parts =
         sym
         (rw (append-nil, append-assoc, texts-same lineAt _ kept lines-same, texts-same sectionRowAt _ (b .held) sections-same))
@@ -48,5 +48,4 @@ module _ (b : Book) (kept : ℕ) (buyers elevators sellers lots delivered termin
 -- a listing is that of its book and its lists, whatever else the answer has
 pub listing-of : (answer : FileAnswer) (lent : Lent)
     → listingOf answer lent ≡ listing (answer .book) (answer .kept) (lent .lists .buyers) (lent .lists .elevators) (lent .lists .sellers) (lent .lists .lots) (lent .lists .delivered) (lent .lists .terminated) (lent .lists .lapsed) (lent .sums)
-unfolding listingOf
 listing-of answer lent = refl

@@ -1,4 +1,4 @@
--- The most bytes of a listing (01, Program, 1; 02, a, 4): a buffer of so many cuts nothing.
+-- The most bytes of a listing (01, Program, 1; 02, a, 4; 02, m, 3): a buffer of so many cuts nothing.
 use Rattle.numbers.proofs.Words.{ℕ, zero, suc, _+_, _*_, _-_, _/_, _%_, _^_, _≤_, _<_, pow-suc, mul-le-mul, arith, _≡_, refl, Bool, true, false, List, [], _∷_, ⊎-elim, length, length-append, ℤ, pos, natAbs, ltZ, entry, entryℤ}
 use Rattle.numbers.specs.Text.{bytes, digitsFrom, decimal, signedDecimal}
 use Rattle.numbers.proofs.Tests.{below-or-not}
@@ -7,7 +7,7 @@ use Rattle.rules.specs.Book.{sectionAt}
 use Rattle.rules.specs.Units.{tonnesOf}
 use Rattle.rules.specs.Expiry.Call.{Lists}
 use Rattle.rules.specs.File.{Lent}
-use Rattle.rules.specs.Listing.{row, lineRow, sectionRow, listingOf}
+use Rattle.rules.specs.Listing.{row, lineRow, sectionRow, listingBytes}
 use Rattle.listing.specs.Columns.{headRow, refusedRow, listing}
 use Rattle.listing.specs.Limits.{Limits}
 use Rattle.listing.proofs.Laws.Digits.{digits-more, digits-last, some-place, below-zero, above-zero}
@@ -28,6 +28,19 @@ digits-most (suc turns) k n after h =
 pub decimal-most : (k n : ℕ) → n < 10 ^ suc k → length (decimal n) ≤ suc k
 unfolding decimal
 decimal-most k n h = omega (arith, digits-most 20 k n [] h)
+
+-- whatever it is, at most 20
+digits-few : (turns n : ℕ) (after : List ℕ) → length (digitsFrom turns n after) ≤ turns + length after
+unfolding digitsFrom
+digits-few zero n after = omega arith
+digits-few (suc turns) n after =
+    ⊎-elim (λ (l : n < 10). rw (digits-last turns n after l) (omega arith))
+    (λ (l : 10 ≤ n). rw (digits-more turns n after l) (omega (arith, digits-few turns (n / 10) ((48 + n % 10) ∷ after))))
+    (below-or-not n 10)
+
+pub decimal-few : (n : ℕ) → length (decimal n) ≤ 20
+unfolding decimal
+decimal-few n = omega (arith, digits-few 20 n [])
 
 -- and a whole number one more for its sign
 pub signed-most : (k : ℕ) (z : ℤ) → natAbs z < 10 ^ suc k → length (signedDecimal z) ≤ suc (suc k)
@@ -73,23 +86,23 @@ module _ {b : Book} {kept : ℕ} {buyers elevators sellers lots delivered termin
       ))
 
   -- a section's code and its lots, without the bytes that end them
-  pub lots-most : (i : ℕ) → i < b .held → length (sectionAt b i .code) + length (decimal (entry delivered i)) + length (decimal (entry terminated i)) + length (decimal (entry lapsed i)) ≤ 28
+  pub lots-most : (i : ℕ) → i < b .held → length (sectionAt b i .code) + length (decimal (entry delivered i)) + length (decimal (entry terminated i)) + length (decimal (entry lapsed i)) ≤ 37
   lots-most i h =
       let e = l .section i h in
       omega (
         arith,
         l .codes i h,
-        decimal-most 6 (entry delivered i) (omega (arith, e .0)),
-        decimal-most 6 (entry terminated i) (omega (arith, e .1)),
-        decimal-most 6 (entry lapsed i) (omega (arith, e .2)),
+        decimal-most 9 (entry delivered i) (omega (arith, e .0)),
+        decimal-most 9 (entry terminated i) (omega (arith, e .1)),
+        decimal-most 9 (entry lapsed i) (omega (arith, e .2)),
       )
 
-  section-most : (i : ℕ) → i < b .held → length (sectionRow b lent i) ≤ 53
+  section-most : (i : ℕ) → i < b .held → length (sectionRow b lent i) ≤ 62
   unfolding sectionRow row
   section-most i h = simp length-append (omega (arith, lots-most i h, signed-most 18 (entryℤ sums i) (l .section i h .3)))
 
-  pub listing-most : length (listing b kept buyers elevators sellers lots delivered terminated lapsed sums) ≤ 21_313
-  unfolding listingOf
+  pub listing-most : length (listing b kept buyers elevators sellers lots delivered terminated lapsed sums) ≤ 22_465
+  unfolding listingBytes
   listing-most =
       simp length-append
-      (omega (arith, head-most kept (l .few), texts-most (lineRow b lists) 38 kept line-most, texts-most (sectionRow b lent) 53 (b .held) section-most, l .few, l .held))
+      (omega (arith, head-most kept (l .few), texts-most (lineRow b lists) 38 kept line-most, texts-most (sectionRow b lent) 62 (b .held) section-most, l .few, l .held))

@@ -8,7 +8,7 @@ over-long : (xs was : List ℕ) {ys : List ℕ} {n : ℕ} → n ≡ length xs �
 over-long xs was e is = omega (arith, e, ap length is, length-append xs (drop (length xs) was))
 
 fits : (c : tie.After-printed) → c .printed .result .length ≤ length (c .printed .result .bytes)
-fits c = over-long (printed (now (c .before .before .args .file))) (replicate 21_313 0) (c .printed .ensures .0) (c .printed .ensures .1)
+fits c = over-long (printed (now (c .before .before .args .file))) (replicate 22_465 0) (c .printed .ensures .0) (c .printed .ensures .1)
 
 printed-requires : tie.Need-printed-requires
 printed-requires c κs = search needs
