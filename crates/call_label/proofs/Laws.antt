@@ -1,0 +1,4 @@
+pub mod Digits
+pub mod Rows
+pub mod Label
+pub mod Cut
