@@ -1,0 +1,2 @@
+pub mod Fullest
+pub mod Shown
