@@ -6,6 +6,8 @@ use common::{Lent, book_of};
 use wheat_delivery::reading::block::Trades;
 use wheat_delivery::reading::book::{Book, NOTICES, Notice, SECTIONS, Section, SessionKind};
 use wheat_delivery::reading::calls::open;
+use wheat_delivery::reading::label::LabelLists;
+use wheat_delivery::reading::listing::Lists;
 use wheat_delivery::reading::refusal::Refusal;
 use wheat_delivery::trial::hand::code;
 
@@ -57,6 +59,15 @@ fn every_call_refuses_1(book: &Book) -> bool {
         && full_margins == [77; 128]
         && block_answers == [77; 2]
         && full.is_untouched()
+        && label_refuses_1(book)
+}
+
+/// The same of the label, which is lent nothing to write.
+fn label_refuses_1(book: &Book) -> bool {
+    let lists = Lists::full();
+    let fit = LabelLists::of(&lists, 0);
+    let labels = [fit, LabelLists { lots: &[0], ..fit }].map(|lists| book.label(lists));
+    labels.map(|label| (label.number, label.count)) == [(1, 0); 2]
 }
 
 /// Whether the good book, changed in one thing, is refused with 1 by every call.

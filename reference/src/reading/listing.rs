@@ -3,7 +3,7 @@
 
 use crate::reading::book::{Book, SECTIONS};
 use crate::reading::calls::{ExpiryLists, REGISTER};
-use crate::reading::file::whole::{ReadLists, Reading, read};
+use crate::reading::file::whole::{ReadLists, read};
 use std::fmt::Write;
 
 /// Lists of full length, owned, to lend to a read.
@@ -57,16 +57,16 @@ pub fn listing(file: &[u8]) -> String {
     let mut lists = Lists::full();
     let reading = read(file, lists.lend());
     match reading.answer {
-        Ok(counts) => accepted(&reading, counts.kept, &lists),
+        Ok(counts) => of_book(&reading.book, counts.kept, &lists),
         Err(refusal) => format!("refused {} {}\n", refusal.number(), reading.place),
     }
 }
 
-/// The register, and "a row per section by number: code, delivered, terminated",
-/// then lapsed, "sum of its margins."
-fn accepted(reading: &Reading, kept: usize, lists: &Lists) -> String {
-    let mut text = register(&reading.book, kept, lists);
-    for (lots, margins) in section_lots(&reading.book, lists).zip(&lists.margin_sums) {
+/// The listing of a book and its lists: the register, and "a row per section by
+/// number: code, delivered, terminated", then lapsed, "sum of its margins."
+pub fn of_book(book: &Book, kept: usize, lists: &Lists) -> String {
+    let mut text = register(book, kept, lists);
+    for (lots, margins) in section_lots(book, lists).zip(&lists.margin_sums) {
         writeln!(text, "{lots} {margins}").expect("a string takes all");
     }
     text

@@ -1,6 +1,6 @@
 //! What the papers say of the book, its calls, expiry, the file and the listing,
-//! of a block of trades, of the calendar, of the last trading day and of the
-//! operands by column.
+//! of a block of trades, of the calendar, of the last trading day, of the operands
+//! by column and of the listing's byte count.
 
 pub mod answers;
 pub mod block;
@@ -10,6 +10,7 @@ pub mod calls;
 pub mod columns;
 pub mod expiry;
 pub mod file;
+pub mod label;
 pub mod last_day;
 pub mod listing;
 pub mod refusal;

@@ -36,6 +36,7 @@ pub enum Refusal {
     BlockLists = 29,
     YearOrMonth = 30,
     ClosedDates = 31,
+    LabelLists = 39,
 }
 
 impl Refusal {

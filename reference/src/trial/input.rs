@@ -1,6 +1,7 @@
 //! An input for a program, and how it is given.
 
-use super::running::{Answer, answer, answer_to_pieces};
+use super::generate;
+use super::running::{Answer, answer, answer_to_pieces, both_answers};
 use std::path::Path;
 
 /// The bytes of a piece that goes through a pipe.
@@ -22,6 +23,12 @@ impl Input {
         }
     }
 
+    /// The generator's file of a seed.
+    pub(super) fn of_seed(seed: u64) -> Input {
+        let name = format!("seed {seed} ({:?})", generate::kind(seed));
+        Input::new(name, generate::file(seed))
+    }
+
     /// What a program, with these arguments, answers to it.
     pub fn given_to(
         &self,
@@ -32,6 +39,21 @@ impl Input {
         match self.in_pieces {
             true => answer_to_pieces(program, arguments, &self.bytes, PIECE),
             false => answer(program, arguments, &self.bytes, folder),
+        }
+    }
+
+    /// What two programs answer to it.
+    pub fn given_to_both(
+        &self,
+        [one, other]: [&str; 2],
+        folder: &Path,
+    ) -> Result<[Answer; 2], String> {
+        match self.in_pieces {
+            true => Ok([
+                self.given_to(one, &[], folder)?,
+                self.given_to(other, &[], folder)?,
+            ]),
+            false => both_answers([one, other], &self.bytes, folder),
         }
     }
 }

@@ -8,6 +8,7 @@ pub mod examples;
 pub mod generate;
 pub mod hand;
 pub mod input;
+pub mod label;
 pub mod random;
 pub mod reach;
 pub mod removal;

@@ -17,23 +17,51 @@ const MOST_OUTPUT: u64 = 1 << 24;
 /// Enough for a program to have read the piece before.
 const PAUSE: Duration = Duration::from_millis(1);
 
-/// What the program, with these arguments, answers to a file. Each run has a
-/// file of its own to lend, in the folder.
+/// What the program, with these arguments, answers to a file.
 pub fn answer(
     program: &str,
     arguments: &[&str],
     bytes: &[u8],
     folder: &Path,
 ) -> Result<Answer, String> {
+    lending(bytes, folder, |lent| {
+        finished(program, start_on(program, arguments, lent)?)
+    })
+}
+
+/// What two programs answer to a file. They run at the same time.
+pub fn both_answers(
+    [one, other]: [&str; 2],
+    bytes: &[u8],
+    folder: &Path,
+) -> Result<[Answer; 2], String> {
+    lending(bytes, folder, |lent| {
+        let (first, second) = (start_on(one, &[], lent)?, start_on(other, &[], lent)?);
+        Ok([finished(one, first)?, finished(other, second)?])
+    })
+}
+
+/// Lends a file of the run's own, in the folder, and takes it away again.
+fn lending<T>(
+    bytes: &[u8],
+    folder: &Path,
+    given: impl FnOnce(&Path) -> Result<T, String>,
+) -> Result<T, String> {
     let path = folder.join(format!("run-{}.events", std::process::id()));
     let at_path = |error: io::Error| format!("{}: {error}", path.display());
     fs::write(&path, bytes).map_err(at_path)?;
-    let lent = File::open(&path).map_err(at_path)?;
-    let answer = start(program, arguments, lent.into())
-        .and_then(finish)
-        .map_err(|error| cannot_be_run(program, error));
+    let answer = given(&path);
     fs::remove_file(&path).map_err(at_path)?;
     answer
+}
+
+fn start_on(program: &str, arguments: &[&str], lent: &Path) -> Result<Child, String> {
+    let file = File::open(lent).map_err(|error| format!("{}: {error}", lent.display()))?;
+    start(program, arguments, file.into())
+}
+
+fn finished(program: &str, child: Child) -> Result<Answer, String> {
+    finish(child).map_err(|error| cannot_be_run(program, error))
 }
 
 /// What the program, with these arguments, answers to bytes that come through a
@@ -45,8 +73,7 @@ pub fn answer_to_pieces(
     bytes: &[u8],
     piece: usize,
 ) -> Result<Answer, String> {
-    let failed = |error| cannot_be_run(program, error);
-    let mut child = start(program, arguments, Stdio::piped()).map_err(failed)?;
+    let mut child = start(program, arguments, Stdio::piped())?;
     let pipe = child.stdin.take();
     let bytes = bytes.to_vec();
     thread::spawn(move || {
@@ -57,7 +84,7 @@ pub fn answer_to_pieces(
             })
         })
     });
-    finish(child).map_err(failed)
+    finished(program, child)
 }
 
 fn cannot_be_run(program: &str, error: io::Error) -> String {
@@ -141,13 +168,14 @@ fn quoted(row: &[u8]) -> String {
 }
 
 /// Starts the program with these arguments and with that on standard input.
-fn start(program: &str, arguments: &[&str], input: Stdio) -> io::Result<Child> {
-    Command::new(program)
+fn start(program: &str, arguments: &[&str], input: Stdio) -> Result<Child, String> {
+    let child = Command::new(program)
         .args(arguments)
         .stdin(input)
         .stdout(Stdio::piped())
         .stderr(Stdio::piped())
-        .spawn()
+        .spawn();
+    child.map_err(|error| cannot_be_run(program, error))
 }
 
 /// Waits for the program's end and takes what it printed.

@@ -31,11 +31,10 @@ pub fn compared(comparison: &str, program: &str, count: &str, seed: &str, folder
     command.output().unwrap()
 }
 
-/// What a comparison with a script of the shell prints. It must fail.
+/// A script of the shell as a program of that folder.
 #[cfg(unix)]
-pub fn difference(comparison: &str, name: &str, script: &str) -> String {
-    let folder = folder(name);
-    std::fs::create_dir_all(&folder).unwrap();
+pub fn scripted(folder: &Path, script: &str) -> String {
+    std::fs::create_dir_all(folder).unwrap();
     let program = folder.join("program").display().to_string();
     let script = format!("#!/bin/sh\n{script}\n");
     let write = "printf %s \"$2\" > \"$1\" && chmod +x \"$1\"";
@@ -43,6 +42,14 @@ pub fn difference(comparison: &str, name: &str, script: &str) -> String {
         .args(["-c", write, "sh", &program, &script])
         .status();
     assert!(written.unwrap().success());
+    program
+}
+
+/// What a comparison with a script of the shell prints. It must fail.
+#[cfg(unix)]
+pub fn difference(comparison: &str, name: &str, script: &str) -> String {
+    let folder = folder(name);
+    let program = scripted(&folder, script);
     let output = compared(comparison, &program, "40", "1", &folder);
     assert_eq!(output.status.code(), Some(1), "{name}");
     String::from_utf8(output.stdout).unwrap()

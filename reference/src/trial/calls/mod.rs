@@ -23,12 +23,17 @@ pub fn file(seed: u64) -> Vec<u8> {
 
 /// Short ones first, those of the seeds last.
 pub fn inputs(seeds: &[u64]) -> impl Iterator<Item = Input> {
+    shapes()
+        .chain([Input::new("the file of most rows", widest())])
+        .chain(seeds.iter().map(|&seed| of_seed(seed)))
+}
+
+/// Misshapen files, the examples, and long files in pieces.
+pub(super) fn shapes() -> impl Iterator<Item = Input> {
     misshapen()
         .into_iter()
         .chain(examples().map(|(name, bytes)| Input::new(name, bytes)))
         .chain(in_pieces())
-        .chain([Input::new("the file of most rows", widest())])
-        .chain(seeds.iter().map(|&seed| of_seed(seed)))
 }
 
 fn of_seed(seed: u64) -> Input {

@@ -4,7 +4,6 @@
 pub mod reach;
 
 use super::examples::examples;
-use super::generate;
 use super::input::Input;
 use super::random::Random;
 use crate::reading::file::{EVENTS, length};
@@ -26,7 +25,7 @@ pub fn inputs(seeds: &[u64]) -> impl Iterator<Item = Input> {
         .chain([longest, longest + 1].map(in_pieces))
         .chain(examples().map(|(name, bytes)| Input::new(name, bytes)))
         .chain(examples().map(|(name, bytes)| cut(name, &bytes)))
-        .chain(seeds.iter().map(|&seed| of_seed(seed)))
+        .chain(seeds.iter().map(|&seed| Input::of_seed(seed)))
         .chain(seeds.iter().step_by(SEEDS).map(|&seed| of_events(seed)))
 }
 
@@ -56,11 +55,6 @@ fn in_pieces(length: usize) -> Input {
 fn cut(name: &str, bytes: &[u8]) -> Input {
     let name = format!("{name} without its last byte");
     Input::new(name, bytes[..bytes.len() - 1].to_vec())
-}
-
-fn of_seed(seed: u64) -> Input {
-    let name = format!("seed {seed} ({:?})", generate::kind(seed));
-    Input::new(name, generate::file(seed))
 }
 
 /// A file of any number of events.
