@@ -55,8 +55,8 @@ fn section(delivered: u32, terminated: u32, lapsed: u32, sum: i64) -> usize
     let of_terminated = lengths::digits(terminated as u64);
     let of_lapsed = lengths::digits(lapsed as u64);
     let of_sum = lengths::whole(sum);
-    let kept = of_delivered + of_terminated;
-    let lots = kept + of_lapsed;
+    let not_lapsed = of_delivered + of_terminated;
+    let lots = not_lapsed + of_lapsed;
     let numbers = lots + of_sum;
     SECTION_FRAME + numbers
 }

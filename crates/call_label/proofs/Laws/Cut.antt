@@ -1,29 +1,25 @@
 -- The label of a register that is cut to so many lines of longer lists (02, m, 3 and 4).
-use Rattle.numbers.proofs.Words.{ℕ, _≤_, _<_, arith, _≡_, refl, sym, ap, _∙_, true, false, _||_, List, [], _∷_, _++_, flatMap, take, length, length-take-le, getD-take, eq-eqb, le-leb, le-ltb, every, counted, entry}
+use Rattle.numbers.proofs.Words.{ℕ, _≤_, _<_, arith, _≡_, refl, sym, ap, _∙_, true, false, List, take, length, length-take-le, getD-take, eq-eqb, le-leb, le-ltb, entry}
 use Rattle.numbers.proofs.Tests.{together}
 use Rattle.numbers.proofs.Orders.{counted-every}
 use Rattle.rules.specs.declared.book.{Book.Book}
 use Rattle.rules.specs.Book.{good}
-use Rattle.rules.specs.Expiry.Call.{lineOf}
+use Rattle.rules.specs.Expiry.Call.{Lists, lineOf}
 use Rattle.rules.specs.File.{Lent}
 use Rattle.rules.specs.Listing.{rowOf, lineRow, sectionRow, listingBytes}
 use Rattle.rules.specs.Label.{rowFit, rowsOf, registerEven, labelAnswer, cutTo}
 use Rattle.listing.specs.Limits.{Limits}
 use Rattle.listing.proofs.Laws.Rows.{texts-same}
-use Rattle.call_label.proofs.Laws.Label.{rowsFit, anyShort, row-test, label-accepted}
+use Rattle.call_label.proofs.Laws.Label.{Long, rowsFit, anyShort, row-test, label-accepted}
 
--- lists with room for so many lines and for the sections held
-pub record Room (b : Book) (n : ℕ) (lent : Lent) : Type 0 where
-  pub buyers : n ≤ length (lent .lists .buyers)
-  pub elevators : n ≤ length (lent .lists .elevators)
-  pub sellers : n ≤ length (lent .lists .sellers)
-  pub lots : n ≤ length (lent .lists .lots)
-  pub delivered : b .held ≤ length (lent .lists .delivered)
-  pub terminated : b .held ≤ length (lent .lists .terminated)
-  pub lapsed : b .held ≤ length (lent .lists .lapsed)
-  pub sums : b .held ≤ length (lent .sums)
+-- register lists with room for so many lines
+pub record Room (n : ℕ) (ls : Lists) : Type 0 where
+  pub buyers : n ≤ length (ls .buyers)
+  pub elevators : n ≤ length (ls .elevators)
+  pub sellers : n ≤ length (ls .sellers)
+  pub lots : n ≤ length (ls .lots)
 
-module _ (b : Book) (lent : Lent) (n : ℕ) (is : good b ≡ true) (room : Room b n lent)
+module _ (b : Book) (lent : Lent) (n : ℕ) (is : good b ≡ true) (room : Room n (lent .lists)) (enough : Long (b .held) lent)
     (limits : Limits b n (lent .lists .buyers) (lent .lists .elevators) (lent .lists .sellers) (lent .lists .lots) (lent .lists .delivered) (lent .lists .terminated) (lent .lists .lapsed) (lent .sums)) where
   abbrev cut : Lent
   cut = cutTo n lent
@@ -47,7 +43,7 @@ module _ (b : Book) (lent : Lent) (n : ℕ) (is : good b ≡ true) (room : Room 
       (together (eq-eqb _ _ (same-long _ (room .lots))) (le-leb (rowsOf (cut .lists)) 382 (omega (arith, rows-are, limits .few)))))
 
   long : anyShort (b .held) cut ≡ false
-  long = simp (le-ltb _ _ (room .delivered), le-ltb _ _ (room .terminated), le-ltb _ _ (room .lapsed), le-ltb _ _ (room .sums))
+  long = simp (le-ltb _ _ (enough .delivered), le-ltb _ _ (enough .terminated), le-ltb _ _ (enough .lapsed), le-ltb _ _ (enough .sums))
 
   fit : rowsFit b cut ≡ true
   fit =

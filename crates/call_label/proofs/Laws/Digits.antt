@@ -1,5 +1,5 @@
 -- How many digits a number has, by the largest numbers that it passes (02, m, 2).
-use Rattle.numbers.proofs.Words.{ℕ, zero, suc, _+_, _-_, _/_, _%_, _^_, _≤_, _<_, min, max, pow-suc, add-one, le-antisymm, not-suc-le-zero, arith, _≡_, subst, List, [], _∷_, ⊎-elim, length}
+use Rattle.numbers.proofs.Words.{ℕ, zero, suc, _+_, _/_, _%_, _^_, _≤_, _<_, max, pow-suc, add-one, le-antisymm, not-suc-le-zero, arith, _≡_, subst, List, [], _∷_, ⊎-elim, length}
 use Rattle.numbers.specs.Text.{digitsFrom, decimal}
 use Rattle.numbers.proofs.Tests.{below-or-not}
 use Rattle.listing.proofs.Laws.Digits.{digits-more, digits-last}

@@ -1,13 +1,12 @@
 -- The number and the answer of a label, and what one that is not refused says of its lists (02, m, 2 and 3 and 4).
-use Rattle.numbers.proofs.Words.{ℕ, _≤_, _<_, zero-add, arith, _≡_, refl, sym, ap, ap₂, _∙_, Bool, true, false, not, cond, _&&_, and-true, and-false, _||_, or-true, List, leb, ltb, eqb, length, not-true, not-false, ne-eqb, eq-eqb, eqb-true, le-leb, leb-true, lt-ltb, ltb-true, le-ltb, ltb-false, every, counted, entry, natAbs}
+use Rattle.numbers.proofs.Words.{ℕ, _≤_, _<_, zero-add, arith, _≡_, refl, sym, ap, ap₂, _∙_, Bool, true, false, not, cond, _&&_, and-false, _||_, or-true, leb, ltb, eqb, length, not-false, ne-eqb, eqb-true, le-leb, leb-true, lt-ltb, ltb-true, ltb-false, every, counted}
 use Rattle.numbers.specs.Lists.{shorter}
 use Rattle.numbers.proofs.Tests.{both, together, or-left, or-right}
 use Rattle.numbers.proofs.Lists.{every-at}
-use Rattle.numbers.proofs.Orders.{counted-every}
 use Rattle.numbers.proofs.Ranges.{counted-length, counted-at}
-use Rattle.rules.specs.declared.book.{Book.Book, LabelAnswer.LabelAnswer}
+use Rattle.rules.specs.declared.book.{Book.Book}
 use Rattle.rules.specs.Book.{good}
-use Rattle.rules.specs.Calls.{first, handedOut, count}
+use Rattle.rules.specs.Calls.{handedOut}
 use Rattle.rules.specs.Expiry.Passes.{Line}
 use Rattle.rules.specs.Expiry.Call.{Lists, lineOf}
 use Rattle.rules.specs.File.{Lent}
@@ -26,7 +25,7 @@ pub record Even (ls : Lists) : Type 0 where
   pub lots : length (ls .lots) ≡ rowsOf ls
   pub few : rowsOf ls ≤ 382
 
-pub even-facts : (ls : Lists) → registerEven ls ≡ true → Even ls
+even-facts : (ls : Lists) → registerEven ls ≡ true → Even ls
 even-facts ls e =
     let elevators = both (eqb (length (ls .elevators)) (rowsOf ls)) _ e in
     let sellers = both (eqb (length (ls .sellers)) (rowsOf ls)) _ (elevators .1) in
@@ -42,7 +41,7 @@ pub record Long (held : ℕ) (lent : Lent) : Type 0 where
 abbrev pub anyShort : ℕ → Lent → Bool
 anyShort held lent = shorter held (lent .lists .delivered) || shorter held (lent .lists .terminated) || shorter held (lent .lists .lapsed) || shorter held (lent .sums)
 
-pub long-facts : (held : ℕ) (lent : Lent) → anyShort held lent ≡ false → Long held lent
+long-facts : (held : ℕ) (lent : Lent) → anyShort held lent ≡ false → Long held lent
 long-facts held lent e =
     let three = or-left (shorter held (lent .lists .delivered) || shorter held (lent .lists .terminated) || shorter held (lent .lists .lapsed)) (shorter held (lent .sums)) e in
     let two = or-left (shorter held (lent .lists .delivered) || shorter held (lent .lists .terminated)) (shorter held (lent .lists .lapsed)) three in

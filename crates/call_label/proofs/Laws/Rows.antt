@@ -1,20 +1,16 @@
 -- How many bytes the rows of a listing have, and what the walks over them keep.
-use Rattle.numbers.proofs.Words.{ℕ, zero, suc, _+_, _*_, _≤_, _<_, _^_, mul-le-mul, arith, zero-add, add-one, _≡_, refl, subst, ap, _∙_, Bool, true, false, cond, List, length, length-append, every, counted, listed, entry, entryℤ, gathered, total, flatMap, ℤ, natAbs, drop}
-use Rattle.numbers.specs.Text.{decimal, signedDecimal}
+use Rattle.numbers.proofs.Words.{ℕ, zero, suc, _+_, _*_, _≤_, _<_, arith, zero-add, add-one, _≡_, refl, subst, ap, _∙_, Bool, true, false, cond, List, length, length-append, every, counted, listed, entry, entryℤ, gathered, total, flatMap, drop}
 use Rattle.numbers.proofs.Sums.{naturals}
-use Rattle.numbers.proofs.Lists.{Has, has, every-at, every-next, every-stop, every-end}
+use Rattle.numbers.proofs.Lists.{Has, has, every-next, every-stop, every-end}
 use Rattle.numbers.proofs.Ranges.{counted-length, counted-at, sum-more}
-use Rattle.rules.specs.declared.{units.Tonnes.Tonnes, book.Book.Book}
+use Rattle.rules.specs.declared.book.{Book.Book}
 use Rattle.rules.specs.Book.{sectionAt}
-use Rattle.rules.specs.Units.{tonnesOf}
 use Rattle.rules.specs.Expiry.Call.{Lists}
 use Rattle.rules.specs.File.{Lent}
 use Rattle.rules.specs.Listing.{row, lineRow, sectionRow, listingBytes}
-use Rattle.rules.specs.Label.{rowFit, rowsOf}
 use Rattle.listing.specs.Columns.{headRow}
-use Rattle.listing.proofs.Laws.Most.{decimal-most, signed-most}
 use Rattle.listing.proofs.Laws.Rows.{texts, texts-more}
-use Rattle.call_label.specs.Lengths.{lineAt, lineLength, linesLength, sectionLength, sectionsLength}
+use Rattle.call_label.specs.Lengths.{lineLength, linesLength, sectionLength, sectionsLength}
 
 -- the rows of a book whose codes have seven bytes (01, Program, 1 and 3)
 pub line-length : (b : Book) (ls : Lists) (i : ℕ) → length (sectionAt b (entry (ls .buyers) i) .code) ≡ 7 → length (sectionAt b (entry (ls .sellers) i) .code) ≡ 7

@@ -16,7 +16,7 @@ use Rattle.listing.proofs.Laws.Most.{decimal-few, listing-most}
 use Rattle.file_listing.proofs.Laws.{listable, prints-accepted, prints-refusal}
 use Rattle.program_io.proofs.Start.{start-printed}
 use Rattle.call_label.proofs.Laws.Label.{label-most}
-use Rattle.call_label.proofs.Laws.Cut.{Room, label-cut}
+use Rattle.call_label.proofs.Laws.Cut.{label-cut}
 use Rattle.label.proofs.Laws.Fullest.{fullestBook, fullestLists, fullest, fullest-wide}
 
 -- lists with the places that the program lends
@@ -72,6 +72,8 @@ module _ (file : List ℕ) {a : FileAnswer} (answer : a ≡ fileAnswer (readWhol
           elevators = le-trans (limits .few) (room .1);
           sellers = le-trans (limits .few) (room .2);
           lots = le-trans (limits .few) (room .3);
+        })
+        (record {
           delivered = le-trans (limits .held) (room .4);
           terminated = le-trans (limits .held) (room .5);
           lapsed = le-trans (limits .held) (room .6);

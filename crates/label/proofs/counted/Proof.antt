@@ -1,4 +1,4 @@
-use Rattle.numbers.proofs.Words.{ℕ, _≤_, needs, arith, _≡_, sym, ap, _∙_, List, length, length-take-le, now}
+use Rattle.numbers.proofs.Words.{ℕ, _≤_, needs, arith, sym, ap, _∙_, length, length-take-le, now}
 use Rattle.rules.specs.declared.book.{LabelAnswer.LabelAnswer}
 use Rattle.rules.specs.File.{Lent}
 use Rattle.rules.specs.Listing.{noughts}

@@ -1,4 +1,4 @@
-use Rattle.numbers.proofs.Words.{refl, needs}
+use Rattle.numbers.proofs.Words.{refl}
 use Rattle.rules.specs.Label.{rowFit}
 use Rattle.call_label.proofs.rows.row_fit.Statement.{statement}
 use Rattle.call_label.proofs.rows.row_fit.Tie as tie

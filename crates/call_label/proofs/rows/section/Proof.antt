@@ -15,8 +15,8 @@ digits-requires-3 c κs = search needs
 whole-requires : tie.Need-whole-requires
 whole-requires c κs = search needs
 
-add-kept : tie.Need-add-kept
-add-kept c = search needs
+add-not-lapsed : tie.Need-add-not-lapsed
+add-not-lapsed c = search needs
 
 add-lots : tie.Need-add-lots
 add-lots c = search needs
@@ -46,7 +46,7 @@ section-spec =
     digits-requires-2
     digits-requires-3
     whole-requires
-    add-kept
+    add-not-lapsed
     add-lots
     add-numbers
     add-result
