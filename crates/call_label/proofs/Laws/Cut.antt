@@ -59,5 +59,6 @@ module _ (b : Book) (lent : Lent) (n : ℕ) (is : good b ≡ true) (room : Room 
   listing-same =
       rw (rows-are, texts-same (λ (i : ℕ). rowOf b (lineOf (cut .lists) i)) (λ (i : ℕ). rowOf b (lineOf (lent .lists) i)) n (λ i h. ap (rowOf b) (line-same i h)))
 
+  -- such a register is not refused (02, m, 3 and 4)
   pub label-cut : labelAnswer b cut ≡ record { number = 0; bytes = length (listingBytes b n lent) }
   label-cut = sym (label-accepted b cut is (sym even) (sym long) refl (length (listingBytes b n lent)) fit (ap length listing-same))

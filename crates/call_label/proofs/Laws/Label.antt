@@ -157,6 +157,7 @@ module _ (b : Book) (lent : Lent) (wide : Widths lent) where
         section = λ i h. (wide .delivered i, wide .terminated i, wide .lapsed i, omega (arith, wide .sums i));
       }
 
+  -- and so it counts no more than the most (02, m, 3)
   pub label-most : labelAnswer b lent .bytes ≤ listingMost
   unfolding labelAnswer
   label-most = go (eqb (labelNumber b lent) 0) refl

@@ -41,6 +41,7 @@ fullestLists =
       sums = replicate 128 (negsuc 9_223_372_036_854_775_807);
     }
 
+-- it is not refused, and its bytes are counted (02, m, 3)
 pub fullest : labelAnswer fullestBook fullestLists ≡ record { number = 0; bytes = listingMost }
 unfolding flatMap numbers.Lists.computed numbers.Sums.computed numbers.Bytes.computed numbers.Little.computed numbers.Text.computed rules.Units.computed rules.Rounding.computed rules.Value.computed rules.Book.computed rules.Calls.computed rules.Listing.computed rules.Label.computed
 fullest = refl

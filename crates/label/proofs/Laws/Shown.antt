@@ -47,7 +47,7 @@ places run e =
       over-places sums 128 (pos 0),
     )
 
--- what an accepted read hands out (02, m, 3)
+-- what an accepted read hands out
 module _ (file : List ℕ) {a : FileAnswer} (answer : a ≡ fileAnswer (readWhole file noughts)) (z : a .number ≡ 0) where
   read-accepted : readWhole file noughts .number ≡ 0
   unfolding fileAnswer
@@ -62,6 +62,7 @@ module _ (file : List ℕ) {a : FileAnswer} (answer : a ≡ fileAnswer (readWhol
     pub few-lines : a .kept ≤ 382
     few-lines = listable file answer lists z .few
 
+    -- its label is the length of what is printed (02, m, 3)
     pub label-is : labelAnswer (a .book) (cutTo (a .kept) after) ≡ record { number = 0; bytes = length (printed file) }
     label-is =
         let limits = listable file answer lists z in
@@ -92,13 +93,14 @@ pub row-few : (file : List ℕ) → length (labelPrinted file) ≤ 21
 unfolding labelPrinted row
 row-few file = simp length-append (omega (arith, decimal-few (length (printed file))))
 
--- no file prints more than the buffer holds
+-- no file prints more than the buffer holds (02, m, 3)
 printed-most : (file : List ℕ) → length (printed file) ≤ listingMost
 printed-most file =
     ⊎-elim (λ (z : readAnswer file .number ≡ 0). omega (arith, ap length (prints-accepted file refl refl z), listing-most (listable file {a = readAnswer file} refl refl z)))
     (λ (ne : readAnswer file .number ≡ 0 → ⊥). omega (arith, ap length (prints-refusal file refl ne), refused-few (readAnswer file .number) (readAnswer file .place)))
     (same-or-not (readAnswer file .number) 0)
 
+-- all that is shown (02, m, 3)
 pub label-shown : LabelShown
 label-shown =
     record {
