@@ -7,10 +7,10 @@ use Rattle.rules.specs.Book.{good}
 use Rattle.rules.specs.Expiry.Call.{Lists, lineOf}
 use Rattle.rules.specs.File.{Lent}
 use Rattle.rules.specs.Listing.{rowOf, lineRow, sectionRow, listingBytes}
-use Rattle.rules.specs.Label.{rowFit, rowsOf, registerEven, labelAnswer, cutTo}
+use Rattle.rules.specs.Label.{rowFit, rowsOf, registerEven, sectionsShort, labelAnswer, cutTo}
 use Rattle.listing.specs.Limits.{Limits}
 use Rattle.listing.proofs.Laws.Rows.{texts-same}
-use Rattle.call_label.proofs.Laws.Label.{Long, rowsFit, anyShort, row-test, label-accepted}
+use Rattle.call_label.proofs.Laws.Label.{Long, rowsFit, row-test, label-accepted}
 
 -- register lists with room for so many lines
 pub record Room (n : ℕ) (ls : Lists) : Type 0 where
@@ -42,7 +42,8 @@ module _ (b : Book) (lent : Lent) (n : ℕ) (is : good b ≡ true) (room : Room 
       (together (eq-eqb _ _ (same-long _ (room .sellers)))
       (together (eq-eqb _ _ (same-long _ (room .lots))) (le-leb (rowsOf (cut .lists)) 382 (omega (arith, rows-are, limits .few)))))
 
-  long : anyShort (b .held) cut ≡ false
+  long : sectionsShort (b .held) cut ≡ false
+  unfolding sectionsShort
   long = simp (le-ltb _ _ (enough .delivered), le-ltb _ _ (enough .terminated), le-ltb _ _ (enough .lapsed), le-ltb _ _ (enough .sums))
 
   fit : rowsFit b cut ≡ true

@@ -38,10 +38,8 @@ pub record Long (held : ℕ) (lent : Lent) : Type 0 where
   pub lapsed : held ≤ length (lent .lists .lapsed)
   pub sums : held ≤ length (lent .sums)
 
-abbrev pub anyShort : ℕ → Lent → Bool
-anyShort held lent = shorter held (lent .lists .delivered) || shorter held (lent .lists .terminated) || shorter held (lent .lists .lapsed) || shorter held (lent .sums)
-
-long-facts : (held : ℕ) (lent : Lent) → anyShort held lent ≡ false → Long held lent
+long-facts : (held : ℕ) (lent : Lent) → sectionsShort held lent ≡ false → Long held lent
+unfolding sectionsShort
 long-facts held lent e =
     let three = or-left (shorter held (lent .lists .delivered) || shorter held (lent .lists .terminated) || shorter held (lent .lists .lapsed)) (shorter held (lent .sums)) e in
     let two = or-left (shorter held (lent .lists .delivered) || shorter held (lent .lists .terminated)) (shorter held (lent .lists .lapsed)) three in
@@ -75,9 +73,9 @@ module _ (b : Book) (lent : Lent) where
     number-is = simp (says, says-none, is)
 
     -- what the code finds of the lists' lengths
-    module _ {even short : Bool} (even-is : even ≡ registerEven (lent .lists)) (short-is : short ≡ anyShort (b .held) lent) where
+    module _ {even short : Bool} (even-is : even ≡ registerEven (lent .lists)) (short-is : short ≡ sectionsShort (b .held) lent) where
       number-by : labelNumber b lent ≡ cond (not (even && rowsFit) || short) 39 0
-      unfolding registerFit sectionsShort
+      unfolding registerFit
       number-by = number-is ∙ ap₂ (λ (e s : Bool). cond (not (e && rowsFit) || s) 39 0) (sym even-is) (sym short-is)
 
       -- 39 by the lengths, or by a row
