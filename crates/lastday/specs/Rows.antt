@@ -1,16 +1,9 @@
 -- The rows of an input, and what is printed for each: a year, a month and closed dates, in base ten, parted by one space.
-use Rattle.rules.specs.Words.{ℕ, Bool, cond, _and_, leb, ltb, between, List, [], _∷_, _++_, map, flatMap, length, drop, entry, every, bytes, decimal, digitsValue, partsOf}
+use Rattle.rules.specs.Words.{ℕ, Bool, cond, _and_, leb, List, [], _∷_, _++_, map, flatMap, length, drop, entry, every, bytes, decimal, isNumber, digitsValue, partsOf}
 use Rattle.rules.specs.declared.dates.{LastDay.LastDay}
 use Rattle.rules.specs.declared.dates.LastDay.the-variants.{On, Refused}
 use Rattle.rules.specs.Listing.{row, refusalRow}
 use Rattle.rules.specs.LastTradingDay.{numberOfDate, lastDayAnswer}
-
--- a number: one digit or more, and within 32 bits
-abbrev pub isDigit : ℕ → Bool
-isDigit = between 48 57
-
-unfoldable pub isNumber : List ℕ → Bool
-isNumber field = ltb 0 (length field) and every isDigit field and ltb (digitsValue field) 4_294_967_296
 
 -- the fields of a row: with a space at its end too, each is ended by one
 unfoldable pub fieldsOf : List ℕ → List (List ℕ)

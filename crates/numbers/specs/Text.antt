@@ -2,10 +2,13 @@
 use Prim.Native.Nat.{ℕ, zero, suc, _+_, _-_, _*_, _/_, _%_}
 use Prim.Native.Char.{code}
 use Prim.Native.String.{String, [] as none, _∷_ as _then_}
-use mathlib.Core.Bool.{true, false, cond}
+use mathlib.Core.Bool.{Bool, true, false, cond}
 use mathlib.Core.List.{List, [], _∷_}
 use lib.Dec.{ltb, eqb}
+use lib.ListN.{length}
 use lib.IntN.{ℤ, pos, negsuc}
+use Rattle.numbers.specs.Whole.{between}
+use Rattle.numbers.specs.Lists.{_and_, every}
 
 -- the bytes of a text
 unfoldable pub bytes : String → List ℕ
@@ -35,6 +38,13 @@ digitsAfter n (digit ∷ digits) = digitsAfter (10 * n + (digit - 48)) digits
 abbrev pub digitsValue : List ℕ → ℕ
 digitsValue = digitsAfter 0
 
+-- a number in digits: one or more, and within 32 bits
+abbrev pub isDigit : ℕ → Bool
+isDigit = between 48 57
+
+unfoldable pub isNumber : List ℕ → Bool
+isNumber word = ltb 0 (length word) and every isDigit word and ltb (digitsValue word) 4_294_967_296
+
 -- a byte in front of the first part of a text; where there is no part, it is one
 unfoldable pub inFront : ℕ → List (List ℕ) → List (List ℕ)
 inFront b [] = (b ∷ []) ∷ []
@@ -47,5 +57,5 @@ partsOf end (b ∷ bs) = cond (eqb b end) ([] ∷ partsOf end bs) (inFront b (pa
 
 -- every definition above, unfolded at once
 unfoldable pub computed : Unit {0}
-unfolding bytes digitsFrom decimal signedDecimal digitsAfter inFront partsOf
+unfolding bytes digitsFrom decimal signedDecimal digitsAfter isNumber inFront partsOf
 computed = tt
