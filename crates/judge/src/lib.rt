@@ -7,7 +7,7 @@ use rules::limits::NOTICE_PLACES;
 use rules::limits::SECTION_PLACES;
 use rules::limits::TRADES_MOST;
 
-mod keys;
+pub mod keys;
 pub mod notices;
 pub mod sections;
 pub mod terms;

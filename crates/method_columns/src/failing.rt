@@ -21,7 +21,7 @@ pub fn noticed(sellers: &[u8], lots: &[u64], sums: &mut [u64])
 }
 
 // The lots of a section with so many lots in its notices where it fails, and 0 where it is sound (01, Expiry, 1.1; 01, Expiry, 1.2).
-fn failed(s: Section, noticed: u64) -> u64
+pub fn failed(s: Section, noticed: u64) -> u64
     ensures { λ r. ⌜ r ≡ cond (not (s .met) || Expiry.isShort (positionOf s) and (not (s .seller) || not (eqb noticed (Expiry.size s)))) (Expiry.size s) 0 ⌝ }
 {
     let position = s.position.0;

@@ -4,3 +4,4 @@ pub mod failing;
 pub mod notices;
 pub mod participants;
 pub mod sections;
+pub mod whole;

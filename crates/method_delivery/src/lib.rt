@@ -8,16 +8,13 @@ ghost use Rattle.method_passes.specs.Formed.{linesIn};
 ghost use Rattle.method_removal.specs.Removed.{keptBy, lapsedBy, Known};
 ghost use Rattle.method_delivery.specs.Lent.{lists, pairsFor, linesFor, keptFor, remainingOf, ColumnsOf, Room};
 use method_columns::failing;
-use method_columns::notices;
-use method_columns::participants;
-use method_columns::sections;
+use method_columns::whole;
 use method_giving::lists;
 use method_passes::pass::Formed;
 use method_passes::register::Register;
 use method_register::passes;
 use method_steps::remaining;
 use rules::book::Book;
-use rules::limits::NOTICE_PLACES;
 use rules::limits::SECTION_PLACES;
 
 mod written;
@@ -225,26 +222,14 @@ pub fn deliver(
 {
     let held = b.held;
     let filed = b.filed;
-    let mut persons = [0; SECTION_PLACES];
-    let mut codes = [0; SECTION_PLACES];
-    let mut positions = [0; SECTION_PLACES];
-    let mut keys = [0; SECTION_PLACES];
-    let mut selling = [0; NOTICE_PLACES];
-    let mut stands = [0; NOTICE_PLACES];
-    let mut stock = [0; NOTICE_PLACES];
-    participants::fill(b, &mut persons[..held]);
-    sections::fill(
-        b,
-        &mut codes[..held],
-        &mut positions[..held],
-        &mut keys[..held],
-    );
-    notices::fill(
-        b,
-        &mut selling[..filed],
-        &mut stands[..filed],
-        &mut stock[..filed],
-    );
+    let columns = whole::columns_of(b);
+    let persons = columns.persons;
+    let codes = columns.codes;
+    let positions = columns.positions;
+    let keys = columns.keys;
+    let selling = columns.selling;
+    let stands = columns.stands;
+    let stock = columns.stock;
     run(
         b,
         &persons[..held],

@@ -37,6 +37,7 @@ pub enum Refusal {
     YearOrMonth = 30,
     ClosedDates = 31,
     LabelLists = 39,
+    NamedSections = 40,
 }
 
 impl Refusal {

@@ -1,179 +1,72 @@
--- The columns of the book stand in seven local lists.
-use Rattle.numbers.proofs.Words.{ℕ, arith, _≡_, refl, sym, _∙_, List, take, length, replicate, length-take-le, ℤ, pos, needs}
-use Rattle.numbers.proofs.Front.{Front, front-of}
-use Rattle.book_laws.proofs.Good.{Good, facts}
+-- The columns of the book stand in the fronts of seven arrays.
+use Rattle.numbers.proofs.Words.{needs}
+use Rattle.book_laws.proofs.Good.{facts}
+use Rattle.method_columns.proofs.Fronts.{Lent, lent}
 use Rattle.method_delivery.proofs.deliver.Statement.{statement}
 use Rattle.method_delivery.proofs.deliver.Tie as tie
 
-book : (c : tie.Start) → Good (c .args .b)
-book c = facts _ (c .pre .0)
-
--- the local lists at first
-abbrev sections : List ℕ
-sections = replicate 128 0
-
-abbrev amounts : List ℤ
-amounts = replicate 128 (pos 0)
-
-abbrev notices : List ℕ
-notices = replicate 256 0
-
-held-long : {A : Type 0} (c : tie.Start) (places : List A) → length places ≡ 128 → c .args .b .held ≡ length (take (c .args .b .held) places)
-held-long c places e = sym (length-take-le _ places (omega (arith, e, book c .held)))
-
-filed-long : {A : Type 0} (c : tie.Start) (places : List A) → length places ≡ 256 → c .args .b .filed ≡ length (take (c .args .b .filed) places)
-filed-long c places e = sym (length-take-le _ places (omega (arith, e, book c .filed)))
-
--- and filled
-module _ (c : tie.After-fill) where
+module _ (c : tie.After-columns-of) where
   abbrev start : tie.Start
-  start = c .before .before .before .before .before .before .before .before .before
+  start = c .before .before .before .before .before .before .before .before
 
-  persons-front : Front (start .args .b .held) sections (c .fill .last .1 .0)
-  persons-front = front-of _ _ _ (book start .held) (c .fill .kept .1 .0)
+  fronts : Lent (start .args .b) (c .columns-of .result)
+  fronts = lent (facts _ (start .pre .0)) (c .columns-of .ensures)
 
-module _ (c : tie.After-fill2) where
-  abbrev second : tie.Start
-  second = c .before .before .before .before .before .before .before .before .before .before .before .before .before .before
-
-  codes-front : Front (second .args .b .held) sections (c .fill2 .last .1 .0)
-  codes-front = front-of _ _ _ (book second .held) (c .fill2 .kept .1 .0)
-
-  positions-front : Front (second .args .b .held) amounts (c .fill2 .last .1 .1 .0)
-  positions-front = front-of _ _ _ (book second .held) (c .fill2 .kept .1 .1 .0)
-
-  keys-front : Front (second .args .b .held) sections (c .fill2 .last .1 .1 .1 .0)
-  keys-front = front-of _ _ _ (book second .held) (c .fill2 .kept .1 .1 .1 .0)
-
-module _ (c : tie.After-fill3) where
-  abbrev third : tie.Start
-  third = c .before .before .before .before .before .before .before .before .before .before .before .before .before .before .before .before .before .before .before .before .before
-
-  selling-front : Front (third .args .b .filed) notices (c .fill3 .last .1 .0)
-  selling-front = front-of _ _ _ (book third .filed) (c .fill3 .kept .1 .0)
-
-  stands-front : Front (third .args .b .filed) notices (c .fill3 .last .1 .1 .0)
-  stands-front = front-of _ _ _ (book third .filed) (c .fill3 .kept .1 .1 .0)
-
-  stock-front : Front (third .args .b .filed) notices (c .fill3 .last .1 .1 .1 .0)
-  stock-front = front-of _ _ _ (book third .filed) (c .fill3 .kept .1 .1 .1 .0)
-
-array-borrow-prefix-persons : tie.Need-array-borrow-prefix-persons
-array-borrow-prefix-persons c = book (c .before .before .before .before .before .before .before) .held
-
-slice-aggregate-fill : tie.Need-slice-aggregate-fill
-slice-aggregate-fill c = held-long (c .before .before .before .before .before .before .before .before) sections refl
-
-fill-requires : tie.Need-fill-requires
-fill-requires c κs = let start = c .before .before .before .before .before .before .before .before in (start .pre .0, sym (held-long start sections refl))
-
-array-borrow-prefix-codes : tie.Need-array-borrow-prefix-codes
-array-borrow-prefix-codes c = book (c .before .before .before .before .before .before .before .before .before .before) .held
-
-slice-aggregate-fill-2 : tie.Need-slice-aggregate-fill-2
-slice-aggregate-fill-2 c = held-long (c .before .before .before .before .before .before .before .before .before .before .before) sections refl
-
-array-borrow-prefix-positions : tie.Need-array-borrow-prefix-positions
-array-borrow-prefix-positions c = book (c .before .before .before .before .before .before .before .before .before .before .before) .held
-
-slice-aggregate-fill-3 : tie.Need-slice-aggregate-fill-3
-slice-aggregate-fill-3 c = held-long (c .before .before .before .before .before .before .before .before .before .before .before .before) amounts refl
-
-array-borrow-prefix-keys : tie.Need-array-borrow-prefix-keys
-array-borrow-prefix-keys c = book (c .before .before .before .before .before .before .before .before .before .before .before .before) .held
-
-slice-aggregate-fill-4 : tie.Need-slice-aggregate-fill-4
-slice-aggregate-fill-4 c = held-long (c .before .before .before .before .before .before .before .before .before .before .before .before .before) sections refl
-
-fill-requires-2 : tie.Need-fill-requires-2
-fill-requires-2 c κs = let start = c .before .before .before .before .before .before .before .before .before .before .before .before .before in (start .pre .0, sym (held-long start sections refl), sym (held-long start amounts refl), sym (held-long start sections refl))
-
-array-borrow-prefix-selling : tie.Need-array-borrow-prefix-selling
-array-borrow-prefix-selling c = book (c .before .before .before .before .before .before .before .before .before .before .before .before .before .before .before .before .before) .filed
-
-slice-aggregate-fill-5 : tie.Need-slice-aggregate-fill-5
-slice-aggregate-fill-5 c = filed-long (c .before .before .before .before .before .before .before .before .before .before .before .before .before .before .before .before .before .before) notices refl
-
-array-borrow-prefix-stands : tie.Need-array-borrow-prefix-stands
-array-borrow-prefix-stands c = book (c .before .before .before .before .before .before .before .before .before .before .before .before .before .before .before .before .before .before) .filed
-
-slice-aggregate-fill-6 : tie.Need-slice-aggregate-fill-6
-slice-aggregate-fill-6 c = filed-long (c .before .before .before .before .before .before .before .before .before .before .before .before .before .before .before .before .before .before .before) notices refl
-
-array-borrow-prefix-stock : tie.Need-array-borrow-prefix-stock
-array-borrow-prefix-stock c = book (c .before .before .before .before .before .before .before .before .before .before .before .before .before .before .before .before .before .before .before) .filed
-
-slice-aggregate-fill-7 : tie.Need-slice-aggregate-fill-7
-slice-aggregate-fill-7 c = filed-long (c .before .before .before .before .before .before .before .before .before .before .before .before .before .before .before .before .before .before .before .before) notices refl
-
-fill-requires-3 : tie.Need-fill-requires-3
-fill-requires-3 c κs = let start = c .before .before .before .before .before .before .before .before .before .before .before .before .before .before .before .before .before .before .before .before in (start .pre .0, sym (filed-long start notices refl), sym (filed-long start notices refl), sym (filed-long start notices refl))
+columns-of-requires : tie.Need-columns-of-requires
+columns-of-requires c κs = search needs
 
 array-share-prefix-persons : tie.Need-array-share-prefix-persons
-array-share-prefix-persons c = persons-front (c .before .before .before .before .before .before .before .before .before .before .before .before .before .before .before) .fits
+array-share-prefix-persons c = fronts (c .before .before .before .before .before .before .before) .persons .fits
 
 slice-aggregate-run : tie.Need-slice-aggregate-run
-slice-aggregate-run c = sym (persons-front (c .before .before .before .before .before .before .before .before .before .before .before .before .before .before .before .before) .long)
+slice-aggregate-run c = fronts (c .before .before .before .before .before .before .before .before) .persons .long
 
 array-share-prefix-codes : tie.Need-array-share-prefix-codes
-array-share-prefix-codes c = codes-front (c .before .before .before .before .before .before .before .before .before .before .before) .fits
+array-share-prefix-codes c = fronts (c .before .before .before .before .before .before .before .before) .codes .fits
 
 slice-aggregate-run-2 : tie.Need-slice-aggregate-run-2
-slice-aggregate-run-2 c = sym (codes-front (c .before .before .before .before .before .before .before .before .before .before .before .before) .long)
+slice-aggregate-run-2 c = fronts (c .before .before .before .before .before .before .before .before .before) .codes .long
 
 array-share-prefix-positions : tie.Need-array-share-prefix-positions
-array-share-prefix-positions c = positions-front (c .before .before .before .before .before .before .before .before .before .before .before .before) .fits
+array-share-prefix-positions c = fronts (c .before .before .before .before .before .before .before .before .before) .positions .fits
 
 slice-aggregate-run-3 : tie.Need-slice-aggregate-run-3
-slice-aggregate-run-3 c = sym (positions-front (c .before .before .before .before .before .before .before .before .before .before .before .before .before) .long)
+slice-aggregate-run-3 c = fronts (c .before .before .before .before .before .before .before .before .before .before) .positions .long
 
 array-share-prefix-keys : tie.Need-array-share-prefix-keys
-array-share-prefix-keys c = keys-front (c .before .before .before .before .before .before .before .before .before .before .before .before .before) .fits
+array-share-prefix-keys c = fronts (c .before .before .before .before .before .before .before .before .before .before) .keys .fits
 
 slice-aggregate-run-4 : tie.Need-slice-aggregate-run-4
-slice-aggregate-run-4 c = sym (keys-front (c .before .before .before .before .before .before .before .before .before .before .before .before .before .before) .long)
+slice-aggregate-run-4 c = fronts (c .before .before .before .before .before .before .before .before .before .before .before) .keys .long
 
 array-share-prefix-selling : tie.Need-array-share-prefix-selling
-array-share-prefix-selling c = selling-front (c .before .before .before .before .before .before .before) .fits
+array-share-prefix-selling c = fronts (c .before .before .before .before .before .before .before .before .before .before .before) .selling .fits
 
 slice-aggregate-run-5 : tie.Need-slice-aggregate-run-5
-slice-aggregate-run-5 c = sym (selling-front (c .before .before .before .before .before .before .before .before) .long)
+slice-aggregate-run-5 c = fronts (c .before .before .before .before .before .before .before .before .before .before .before .before) .selling .long
 
 array-share-prefix-stands : tie.Need-array-share-prefix-stands
-array-share-prefix-stands c = stands-front (c .before .before .before .before .before .before .before .before) .fits
+array-share-prefix-stands c = fronts (c .before .before .before .before .before .before .before .before .before .before .before .before) .stands .fits
 
 slice-aggregate-run-6 : tie.Need-slice-aggregate-run-6
-slice-aggregate-run-6 c = sym (stands-front (c .before .before .before .before .before .before .before .before .before) .long)
+slice-aggregate-run-6 c = fronts (c .before .before .before .before .before .before .before .before .before .before .before .before .before) .stands .long
 
 array-share-prefix-stock : tie.Need-array-share-prefix-stock
-array-share-prefix-stock c = stock-front (c .before .before .before .before .before .before .before .before .before) .fits
+array-share-prefix-stock c = fronts (c .before .before .before .before .before .before .before .before .before .before .before .before .before) .stock .fits
 
 slice-aggregate-run-7 : tie.Need-slice-aggregate-run-7
-slice-aggregate-run-7 c = sym (stock-front (c .before .before .before .before .before .before .before .before .before .before) .long)
+slice-aggregate-run-7 c = fronts (c .before .before .before .before .before .before .before .before .before .before .before .before .before .before) .stock .long
 
 run-requires : tie.Need-run-requires
 run-requires c κs =
-    let noticed = c .before .before .before .before .before .before .before .before .before .before .before .before .before .before .before .before .before in
-    let filled = noticed .before .before .before .before .before .before .before in
-    let named = filled .before .before .before .before .before in
-    let held = filled .fill2 .ensures in
-    let filed = noticed .fill3 .ensures in (
+    let at = c .before .before .before .before .before .before .before .before .before .before .before .before .before .before .before .before .before .before .before .before .before in
+    let whole = at .columns-of .ensures in (
       (
-        start named .pre .0,
-        record {
-          codes-are = codes-front filled .is ∙ held .0;
-          positions-are = positions-front filled .is ∙ held .1 .0;
-          keys-are = keys-front filled .is ∙ held .1 .1;
-          filed =
-              record {
-                sellers-are = selling-front noticed .is ∙ filed .0;
-                stands-are = stands-front noticed .is ∙ filed .1 .0;
-                lots-are = stock-front noticed .is ∙ filed .1 .1;
-              };
-        },
-        persons-front named .is ∙ named .fill .ensures,
+        start at .pre .0,
+        record { codes-are = whole .codes; positions-are = whole .positions; keys-are = whole .keys; filed = record { sellers-are = whole .selling; stands-are = whole .stands; lots-are = whole .stock } },
+        whole .persons,
       ),
-      start named .pre .1,
+      start at .pre .1,
     )
 
 same-length : tie.Need-same-length
@@ -204,23 +97,7 @@ pub deliver-spec : {M : Type 1} → statement M
 deliver-spec =
     tie.close
     (tie.spec
-    array-borrow-prefix-persons
-    slice-aggregate-fill
-    fill-requires
-    array-borrow-prefix-codes
-    slice-aggregate-fill-2
-    array-borrow-prefix-positions
-    slice-aggregate-fill-3
-    array-borrow-prefix-keys
-    slice-aggregate-fill-4
-    fill-requires-2
-    array-borrow-prefix-selling
-    slice-aggregate-fill-5
-    array-borrow-prefix-stands
-    slice-aggregate-fill-6
-    array-borrow-prefix-stock
-    slice-aggregate-fill-7
-    fill-requires-3
+    columns-of-requires
     array-share-prefix-persons
     slice-aggregate-run
     array-share-prefix-codes

@@ -3,10 +3,12 @@
 //! Small books reach the refusals, alone and two at once. Medium books are
 //! mostly accepted, with many lines, ties and splits. Books at the limits fill
 //! what can be filled. Damaged files are flipped, cut, lengthened or given a
-//! wrong n. Unruly files, apart from these, go on after a refusal.
+//! wrong n. Unruly files, apart from these, go on after a refusal, and those of the
+//! risk desk are looked at before their expiry.
 
 mod contracts;
 mod damaged;
+mod desk;
 mod faults;
 mod limits;
 pub mod lists;
@@ -24,6 +26,7 @@ use crate::reading::file::event::{self, Event};
 use crate::reading::file::whole::Replay;
 use crate::trial::random::Random;
 use damaged::damaged;
+pub use desk::desk;
 use limits::limits;
 use medium::medium;
 pub use sized::{sized, trading};

@@ -1,0 +1,9 @@
+pub mod Accepted
+pub mod Lists
+pub mod Ending
+pub mod Order
+pub mod Named
+pub mod Plain
+pub mod Steps
+pub mod Doubled
+pub mod Shown
