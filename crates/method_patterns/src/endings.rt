@@ -26,11 +26,13 @@ pub fn with_ending(c: Counts, own: u64, lots: u64) -> Counts
     ensures { λ r. ⌜ r ≡ record { full = c .full + cond (allOf own lots) 1 0; part = c .part + cond (someOf own lots) 1 0; none = c .none + cond (noneOf own lots) 1 0 } ⌝ }
 {
     let mut next = c;
-    if lots == own {
+    let whole = lots == own;
+    let nothing = lots == 0;
+    if whole {
         next.full = c.full + 1;
         return next;
     }
-    if lots == 0 {
+    if nothing {
         next.none = c.none + 1;
         return next;
     }

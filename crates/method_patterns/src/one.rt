@@ -1,5 +1,5 @@
 // One pattern: what a section delivers under it.
-ghost use Rattle.rules.specs.Words.{_≡_, _<_, length};
+ghost use Rattle.rules.specs.Words.{_≡_, _≤_, _<_, _-_, length};
 ghost use Rattle.rules.specs.declared.book.Book.{Book};
 ghost use Rattle.rules.specs.Failures.{deliveredIn};
 ghost use Rattle.method_patterns.specs.Patterns.{bookUnder, Stands, Standing, Marks, Named};
@@ -7,6 +7,14 @@ use crate::marks;
 use method_register::passes;
 use method_steps::remaining;
 use rules::limits::SECTION_PLACES;
+
+// What is delivered of what is left when some of it lapses (02, n, 3; 02, a, 5).
+fn not_lapsed(left: u64, lapsed: u64) -> u64
+    requires { ⌜ lapsed ≤ left ⌝ }
+    ensures { λ r. ⌜ r ≡ left - lapsed ⌝ }
+{
+    left - lapsed
+}
 
 // What a section delivers, given what fails: what the method leaves it, less what lapses of that (02, n, 3 and 4; 02, a, 5).
 fn delivered(
@@ -40,7 +48,7 @@ fn delivered(
     method_removal::lapsed(persons, register, &mut gone[..held]);
     let left = kept[asked];
     let lapsed = gone[asked];
-    left - lapsed
+    not_lapsed(left, lapsed)
 }
 
 // What a section delivers under a pattern (02, n, 1 and 4).

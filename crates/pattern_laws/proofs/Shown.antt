@@ -1,11 +1,16 @@
--- Which failures reach a grower: the counts make two to the power of the number named, the order of the names does not matter, and a section with no position doubles each (02, n, 4).
-use Rattle.numbers.proofs.Words.{ℕ, _*_, arith, _≡_, Bool, not, _||_, List, _∷_, length, le-ltb, eqb, passing, some, apart}
+-- Which failures reach a grower: an expiry delivers what is said here, the counts make two to the power of the number named, the order of the names does not matter, and a section with no position doubles each (02, n, 4).
+use Rattle.numbers.proofs.Words.{ℕ, _*_, _<_, arith, _≡_, Bool, not, _||_, List, _∷_, length, le-ltb, not-false, eqb, passing, some, apart, entry}
 use Rattle.numbers.proofs.Tests.{or-left, or-right, both}
 use Rattle.rules.specs.declared.book.{Book.Book}
 use Rattle.rules.specs.Book.{sectionAt}
 use Rattle.rules.specs.Calls.{first, unknown, handedOut, count}
 use Rattle.rules.specs.Expiry.{size}
-use Rattle.rules.specs.Failures.{patterns, failuresNumber, failuresAnswer, inFull, inPart, notAtAll, namedMost, FailuresShown}
+use Rattle.rules.specs.Expiry.Call.{Lists, expiryRefusals, expiryLists}
+use Rattle.rules.specs.Failures.{deliveredIn, patterns, failuresNumber, failuresAnswer, inFull, inPart, notAtAll, namedMost, FailuresShown}
+use Rattle.book_laws.proofs.Answers.{first-none}
+use Rattle.book_laws.proofs.ExpiryLists.{delivered-written}
+use Rattle.book_laws.proofs.Good.{facts}
+use Rattle.book_laws.proofs.Held.{held-length}
 use Rattle.pattern_laws.proofs.Accepted.{Accepted, accepted}
 use Rattle.pattern_laws.proofs.Ending.{all-endings}
 use Rattle.pattern_laws.proofs.Named.{number-any-order, ending-any-order}
@@ -38,11 +43,19 @@ count-doubled : (b : Book) (asked : ℕ) (named : List ℕ) (i : ℕ) → size (
     → count (failuresNumber b asked (i ∷ named)) (passing ends (patterns b (i ∷ named))) ≡ 2 * count (failuresNumber b asked named) (passing ends (patterns b named))
 count-doubled b asked named i flat e ends unseen = rw (e, fewer-named b asked named i e) (doubled ends unseen b i named flat)
 
+-- what an accepted expiry writes for a section is what its book delivers (02, n, 4)
+as-expiry : (b : Book) (ls : Lists) (i : ℕ) → first (expiryRefusals b ls) ≡ 0 → i < b .held → entry (expiryLists b ls .delivered) i ≡ deliveredIn i b
+unfolding expiryLists deliveredIn expiryRefusals
+as-expiry b ls i e held =
+    let book = facts b (not-false _ (first-none _ _ (omega arith) e .0)) in
+    rw e (delivered-written b ls i (omega (arith, held, held-length b (book .section-places) (book .held))))
+
 -- what is shown of the answer (02, n, 4)
 pub failures-shown : FailuresShown
 unfolding failuresAnswer
 failures-shown =
     record {
+      as-expiry = as-expiry;
       together = λ b asked named e. rw e (all-endings asked named b);
       any-order = λ b asked named other same k.
           let number = number-any-order b asked named other same k in

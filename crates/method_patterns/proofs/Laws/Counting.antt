@@ -1,5 +1,5 @@
 -- Patterns counted one after the other by how they end.
-use Rattle.numbers.proofs.Words.{ℕ, _+_, _≤_, add-one, arith, _≡_, refl, sym, ap, ap₂, subst, _∙_, Bool, true, false, not, _||_, eqb, eqb-true, eq-eqb, ne-eqb, _and_, counted, gathered, many}
+use Rattle.numbers.proofs.Words.{ℕ, _+_, _≤_, add-one, arith, _≡_, refl, sym, ap, ap₂, subst, _∙_, Bool, true, false, not, _||_, eqb, eqb-true, eqb-false, eq-eqb, ne-eqb, _and_, counted, gathered, many}
 use Rattle.numbers.proofs.Counts.{one, many-more, many-most}
 use Rattle.method_patterns.specs.declared.endings.{Counts.Counts}
 use Rattle.method_patterns.specs.Endings.{allOf, noneOf, someOf, Counted}
@@ -22,15 +22,16 @@ module _ (c : Counts) (own lots : ℕ) where
   not-none true e follows = ap₂ (λ (x y : Bool). x and not y) e (eq-eqb own 0 (follows refl))
   not-none false e follows = ap (λ (t : Bool). t and not (eqb own 0)) e
 
-  pub ended-full : lots ≡ own → record { full = c .full + 1; part = c .part; none = c .none } ≡ more c own lots
-  ended-full is = made true false (eq-eqb lots own is) (not-none (eqb lots 0) refl (λ e. sym is ∙ eqb-true lots 0 e)) (omega arith) (omega arith) (omega arith)
+  pub ended-full : eqb lots own ≡ true → record { full = c .full + 1; part = c .part; none = c .none } ≡ more c own lots
+  ended-full all = made true false all (not-none (eqb lots 0) refl (λ e. sym (eqb-true lots own all) ∙ eqb-true lots 0 e)) (omega arith) (omega arith) (omega arith)
 
-  pub ended-none : (lots ≡ own → ⊥) → lots ≡ 0 → record { full = c .full; part = c .part; none = c .none + 1 } ≡ more c own lots
+  pub ended-none : eqb lots own ≡ false → eqb lots 0 ≡ true → record { full = c .full; part = c .part; none = c .none + 1 } ≡ more c own lots
   ended-none differs nothing =
-      made false true (ne-eqb lots own differs) (ap₂ (λ (x y : Bool). x and not y) (eq-eqb lots 0 nothing) (ne-eqb own 0 (λ e. differs (nothing ∙ sym e)))) (omega arith) (omega arith) (omega arith)
+      let some-own = ne-eqb own 0 (λ e. eqb-false lots own differs (eqb-true lots 0 nothing ∙ sym e)) in
+      made false true differs (ap₂ (λ (x y : Bool). x and not y) nothing some-own) (omega arith) (omega arith) (omega arith)
 
-  pub ended-part : (lots ≡ own → ⊥) → (lots ≡ 0 → ⊥) → record { full = c .full; part = c .part + 1; none = c .none } ≡ more c own lots
-  ended-part differs some = made false false (ne-eqb lots own differs) (not-none (eqb lots 0) refl (λ e. absurd (some (eqb-true lots 0 e)))) (omega arith) (omega arith) (omega arith)
+  pub ended-part : eqb lots own ≡ false → eqb lots 0 ≡ false → record { full = c .full; part = c .part + 1; none = c .none } ≡ more c own lots
+  ended-part differs some = made false false differs (ap (λ (t : Bool). t and not (eqb own 0)) some) (omega arith) (omega arith) (omega arith)
 
 pub counted-none : (own : ℕ) (lots : ℕ → ℕ) → Counted own lots 0 (record { full = 0; part = 0; none = 0 })
 unfolding many counted gathered

@@ -133,8 +133,8 @@ mul-lapsed c = omega (arith, small-place (c .before))
 array-read-lapsed : tie.Need-array-read-lapsed
 array-read-lapsed c = small-place (c .before)
 
-sub-result : tie.Need-sub-result
-sub-result c =
+not-lapsed-requires : tie.Need-not-lapsed-requires
+not-lapsed-requires c κs =
     let at = c .before in
     let start = first at in
     let b = book start in
@@ -143,7 +143,7 @@ sub-result c =
 
 returns : tie.Need-returns
 unfolding deliveredIn delivered
-returns c = λ b is. let at = c .before in ap₂ _-_ (left-at at b is) (gone-at at b is) ∙ sym (less-at (remainingOf b) (lapsed (heldSections b) (filedNotices b)) (first at .args .asked))
+returns c = λ b is. let at = c .before .before in c .not-lapsed .ensures ∙ ap₂ _-_ (left-at at b is) (gone-at at b is) ∙ sym (less-at (remainingOf b) (lapsed (heldSections b) (filedNotices b)) (first at .args .asked))
 
 pub delivered-spec : {M : Type 1} → statement M
 delivered-spec =
@@ -162,5 +162,5 @@ delivered-spec =
     array-read-left
     mul-lapsed
     array-read-lapsed
-    sub-result
+    not-lapsed-requires
     returns)
