@@ -1,18 +1,6 @@
--- The fields of a row one after the other, and the digits of a field, as they are read.
-use Rattle.rules.specs.Words.{ℕ, suc, _+_, _-_, _*_, min, _≤_, _≡_, true, cond, eqb, List, [], _∷_, length, take, every, digitsValue}
-use Rattle.lastday.specs.Rows.{isDigit, isNumber, fieldsOf, numbersOf}
-
--- one more than the largest number stands for a field that is none
-abbrev pub noNumber : ℕ
-noNumber = 4_294_967_296
-
--- the number in a field
-unfoldable pub numberOr : List ℕ → ℕ
-numberOr field = cond (isNumber field) (digitsValue field) noNumber
-
--- a number with one digit more
-unfoldable pub withDigit : ℕ → ℕ → ℕ
-withDigit n b = cond (isDigit b) (min (10 * n + (b - 48)) noNumber) noNumber
+-- The fields of a row one after the other, as they are read.
+use Rattle.rules.specs.Words.{ℕ, suc, _≤_, _≡_, true, cond, eqb, List, [], _∷_, length, take, every, isNumber}
+use Rattle.lastday.specs.Rows.{fieldsOf, numbersOf}
 
 -- how many bytes stand before the first one that ends a part; all of them where there is none
 unfoldable pub placeOf : ℕ → List ℕ → ℕ

@@ -1,6 +1,6 @@
 -- What is printed for a row: when it is which text, and how long it is.
 use Rattle.numbers.proofs.Words.{ℕ, zero, suc, _+_, _-_, _^_, _≤_, _<_, arith, _≡_, refl, sym, ap, ap₂, subst, _∙_, Bool, true, false, not, cond, List, [], _∷_, length, length-append, take, drop, getD-take, eqb, eqb-true, leb, le-leb, lt-leb, _and_, every, entry}
-use Rattle.numbers.specs.Text.{bytes, decimal}
+use Rattle.numbers.specs.Text.{bytes, decimal, isNumber}
 use Rattle.numbers.proofs.Tests.{fails-left, fails-right, together}
 use Rattle.rules.specs.declared.dates.{Date.Date, LastDay.LastDay}
 use Rattle.rules.specs.declared.dates.LastDay.the-variants.{On, Refused}
@@ -13,7 +13,7 @@ use Rattle.calendar_laws.proofs.Order.{day-limit}
 use Rattle.calendar_laws.proofs.Search.{last-day-shown}
 use Rattle.listing.specs.{Columns.field, Laid.Laid}
 use Rattle.listing.proofs.Laws.Most.{decimal-most}
-use Rattle.lastday.specs.Rows.{isNumber, fieldsOf, numbersOf, rowGood, answerRow, badRow, answerTo, rowAnswer}
+use Rattle.lastday.specs.Rows.{fieldsOf, numbersOf, rowGood, answerRow, badRow, answerTo, rowAnswer}
 use Rattle.lastday.specs.Fields.{NumbersRead}
 
 -- the first entries of what comes after two, and what comes after two of the first entries

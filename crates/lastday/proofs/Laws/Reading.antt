@@ -1,10 +1,11 @@
 -- The numbers of a row, written into a list as its fields are read.
 use Rattle.numbers.proofs.Words.{ℕ, _+_, _-_, _*_, _≤_, _<_, add-one, arith, _≡_, sym, ap, _∙_, Bool, true, false, cond, _&&_, false≢true, List, [], _∷_, _++_, map, append-nil, append-assoc, length, length-map, length-set, length-take-le, length-drop, take, drop, set, ltb, ltb-true, every, take-suc-set}
-use Rattle.numbers.specs.Text.{digitsValue}
+use Rattle.numbers.specs.Text.{digitsValue, isNumber}
 use Rattle.numbers.proofs.Tests.{both, fails-left}
-use Rattle.lastday.specs.Rows.{isNumber, fieldsOf, numbersOf}
-use Rattle.lastday.specs.Fields.{noNumber, numberOr, placeOf, NumbersRead}
-use Rattle.lastday.proofs.Laws.Digits.{is-number, is-none}
+use Rattle.program_words.specs.Digits.{noNumber, numberOr}
+use Rattle.program_words.proofs.Digits.{is-number, is-none}
+use Rattle.lastday.specs.Rows.{fieldsOf, numbersOf}
+use Rattle.lastday.specs.Fields.{placeOf, NumbersRead}
 use Rattle.lastday.proofs.Laws.Fields.{fieldsFrom, fields-all, fields-past, field-next, place-most}
 
 -- so many numbers are read, of the fields before a place; what is left to read is the fields from there on

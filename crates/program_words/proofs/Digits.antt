@@ -1,10 +1,9 @@
--- The digits of a field, read one after the other, give the number in it.
+-- The digits of a word, read one after the other, give the number in it.
 use Rattle.numbers.proofs.Words.{ℕ, _+_, _-_, _*_, _≤_, _<_, min, arith, _≡_, refl, sym, ap, _∙_, Bool, true, false, cond, _&&_, and-false, List, [], _∷_, drop, drop-of-length-le, length, ⊎-elim, ltb, lt-ltb, le-ltb, ltb-true, _and_, every}
-use Rattle.numbers.specs.Text.{digitsAfter, digitsValue}
+use Rattle.numbers.specs.Text.{digitsAfter, digitsValue, isDigit, isNumber}
 use Rattle.numbers.proofs.Tests.{both, below-or-not}
 use Rattle.numbers.proofs.Lists.{Has, from-here}
-use Rattle.lastday.specs.Rows.{isDigit, isNumber}
-use Rattle.lastday.specs.Fields.{noNumber, numberOr, withDigit}
+use Rattle.program_words.specs.Digits.{noNumber, numberOr, withDigit}
 
 -- digits after a number
 unfoldable pub readFrom : ℕ → List ℕ → ℕ
@@ -65,14 +64,14 @@ read-value n (b ∷ bs) h = go (isDigit b) refl (λ m k. read-value m bs k)
         (below-or-not (10 * n + (b - 48)) noNumber)
     go false e rest = past rest (no-digit n b e)
 
--- so a field with a byte in it gives its number
-pub read-number : (field : List ℕ) → 0 < length field → readFrom 0 field ≡ numberOr field
+-- so a word with a byte in it gives its number
+pub read-number : (word : List ℕ) → 0 < length word → readFrom 0 word ≡ numberOr word
 unfolding numberOr isNumber
-read-number field some = read-value 0 field (omega arith) ∙ sym (ap (λ (t : Bool). cond (t and every isDigit field and ltb (digitsValue field) noNumber) (digitsValue field) noNumber) (lt-ltb 0 (length field) some))
+read-number word some = read-value 0 word (omega arith) ∙ sym (ap (λ (t : Bool). cond (t and every isDigit word and ltb (digitsValue word) noNumber) (digitsValue word) noNumber) (lt-ltb 0 (length word) some))
 
-pub no-field : (field : List ℕ) → length field ≤ 0 → noNumber ≡ numberOr field
+pub no-word : (word : List ℕ) → length word ≤ 0 → noNumber ≡ numberOr word
 unfolding numberOr isNumber
-no-field field none = sym (ap (λ (t : Bool). cond (t and every isDigit field and ltb (digitsValue field) noNumber) (digitsValue field) noNumber) (le-ltb 0 (length field) none))
+no-word word none = sym (ap (λ (t : Bool). cond (t and every isDigit word and ltb (digitsValue word) noNumber) (digitsValue word) noNumber) (le-ltb 0 (length word) none))
 
 -- one byte more, as a loop goes
 pub read-next : {bs : List ℕ} {i b : ℕ} → Has bs i b → (n : ℕ) → readFrom n (drop i bs) ≡ readFrom (withDigit n b) (drop (i + 1) bs)
@@ -83,22 +82,22 @@ pub read-end : (bs : List ℕ) (i n : ℕ) → length bs ≤ i → readFrom n (d
 unfolding readFrom
 read-end bs i n past = rw (drop-of-length-le bs past)
 
--- what the number in a field says of the field
-pub is-number : (field : List ℕ) → numberOr field < noNumber → (isNumber field ≡ true) × (numberOr field ≡ digitsValue field)
+-- what the number in a word says of the word
+pub is-number : (word : List ℕ) → numberOr word < noNumber → (isNumber word ≡ true) × (numberOr word ≡ digitsValue word)
 unfolding numberOr
-is-number field = go (isNumber field)
+is-number word = go (isNumber word)
   where
-    go : (t : Bool) → cond t (digitsValue field) noNumber < noNumber → (t ≡ true) × (cond t (digitsValue field) noNumber ≡ digitsValue field)
+    go : (t : Bool) → cond t (digitsValue word) noNumber < noNumber → (t ≡ true) × (cond t (digitsValue word) noNumber ≡ digitsValue word)
     go true h = (refl, refl)
     go false h = absurd (omega (arith, h))
 
-pub is-none : (field : List ℕ) → noNumber ≤ numberOr field → isNumber field ≡ false
+pub is-none : (word : List ℕ) → noNumber ≤ numberOr word → isNumber word ≡ false
 unfolding numberOr isNumber
-is-none field = go (isNumber field) refl
+is-none word = go (isNumber word) refl
   where
-    go : (t : Bool) → isNumber field ≡ t → noNumber ≤ cond t (digitsValue field) noNumber → t ≡ false
+    go : (t : Bool) → isNumber word ≡ t → noNumber ≤ cond t (digitsValue word) noNumber → t ≡ false
     go true e h =
-        let digits = both (ltb 0 (length field)) (every isDigit field and ltb (digitsValue field) noNumber) e .1 in
-        let small = ltb-true (digitsValue field) noNumber (both (every isDigit field) (ltb (digitsValue field) noNumber) digits .1) in
+        let digits = both (ltb 0 (length word)) (every isDigit word and ltb (digitsValue word) noNumber) e .1 in
+        let small = ltb-true (digitsValue word) noNumber (both (every isDigit word) (ltb (digitsValue word) noNumber) digits .1) in
         absurd (omega (arith, h, small))
     go false e h = refl

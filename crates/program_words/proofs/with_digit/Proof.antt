@@ -1,9 +1,9 @@
 use Rattle.numbers.proofs.Words.{arith, _≡_, true, sym, leb, leb-true, not-true, not-false, needs}
 use Rattle.numbers.proofs.Tests.{both}
-use Rattle.lastday.specs.Rows.{isDigit}
-use Rattle.lastday.proofs.Laws.Digits.{digit-small, digit-large, no-digit}
-use Rattle.lastday.proofs.fields.with_digit.Statement.{statement}
-use Rattle.lastday.proofs.fields.with_digit.Tie as tie
+use Rattle.numbers.specs.Text.{isDigit}
+use Rattle.program_words.proofs.Digits.{digit-small, digit-large, no-digit}
+use Rattle.program_words.proofs.with_digit.Statement.{statement}
+use Rattle.program_words.proofs.with_digit.Tie as tie
 
 -- past the first test the byte is a digit
 digit : (c : tie.Else1) → isDigit (c .before .args .b) ≡ true

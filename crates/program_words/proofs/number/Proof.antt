@@ -1,18 +1,18 @@
 use Rattle.numbers.proofs.Words.{ℕ, _+_, _-_, _≤_, arith, _≡_, refl, sym, ap, _∙_, length, drop, entry, now}
 use Rattle.numbers.proofs.Lists.{has}
-use Rattle.lastday.specs.Fields.{noNumber}
-use Rattle.lastday.proofs.Laws.Digits.{readFrom, read-next, read-end, read-number, no-field, digit-most}
-use Rattle.lastday.proofs.fields.number.Statement.{statement}
-use Rattle.lastday.proofs.fields.number.Tie as tie
+use Rattle.program_words.specs.Digits.{noNumber}
+use Rattle.program_words.proofs.Digits.{readFrom, read-next, read-end, read-number, no-word, digit-most}
+use Rattle.program_words.proofs.number.Statement.{statement}
+use Rattle.program_words.proofs.number.Tie as tie
 
 abbrev Inv-loop : tie.InvT-loop
-Inv-loop field n₀ i₀ n i = (n ≤ noNumber) × (readFrom n (drop i field) ≡ readFrom 0 field)
+Inv-loop word n₀ i₀ n i = (n ≤ noNumber) × (readFrom n (drop i word) ≡ readFrom 0 word)
 
 abbrev μ-loop : tie.MeasureT-loop
-μ-loop field n₀ i₀ n i = length field - i
+μ-loop word n₀ i₀ n i = length word - i
 
 returns : tie.Need-returns Inv-loop μ-loop
-returns c = no-field _ (omega arith)
+returns c = no-word _ (omega arith)
 
 loop-holds : tie.Need-loop-holds Inv-loop μ-loop
 loop-holds c = (omega arith, refl)
@@ -32,14 +32,14 @@ loop-less c = omega arith
 loop-again : tie.Need-loop-again Inv-loop μ-loop
 loop-again c =
     let at = c .before .before .before in
-    let xs = now (at .before .before .before .args .field) in
+    let xs = now (at .before .before .before .args .word) in
     let next = read-next (has xs (at .loop .i) 0 (omega arith)) (at .loop .n) in
     (omega (arith, c .with-digit .ensures, digit-most (at .loop .n) (entry xs (at .loop .i))), ap (λ (m : ℕ). readFrom m (drop (at .loop .i + 1) xs)) (c .with-digit .ensures) ∙ sym next ∙ at .loop .inv .1)
 
 returns-2 : tie.Need-returns-2 Inv-loop μ-loop
 returns-2 c =
     let at = c .before in
-    let xs = now (at .before .before .before .args .field) in
+    let xs = now (at .before .before .before .args .word) in
     sym (read-end xs (at .loop .i) (at .loop .n) (omega arith)) ∙ at .loop .inv .1 ∙ read-number xs (omega arith)
 
 pub number-spec : {M : Type 1} → statement M

@@ -1,0 +1,4 @@
+pub mod Places
+pub mod Meaning
+pub mod Printed
+pub mod Resolving
