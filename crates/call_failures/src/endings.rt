@@ -1,13 +1,12 @@
 // The columns of the book, filled once, and all patterns over them.
 ghost use Prim.Native.Nat.{_^_};
-ghost use Rattle.rules.specs.Words.{ℕ, _≡_, _≤_, _<_, true, false, length, entry, listed};
-ghost use Rattle.rules.specs.Book.{good, sectionAt, heldSections, filedNotices};
+ghost use Rattle.rules.specs.Words.{ℕ, _≡_, _≤_, _<_, true, false, length};
+ghost use Rattle.rules.specs.Book.{good, sectionAt, heldSections};
 ghost use Rattle.rules.specs.Expiry.{size};
-ghost use Rattle.rules.specs.Expiry.Failing;
 ghost use Rattle.rules.specs.Failures.{deliveredIn};
 ghost use Rattle.method_laws.specs.Columns.{participantsOf, Below};
 ghost use Rattle.method_delivery.specs.Lent.{ColumnsOf};
-ghost use Rattle.method_patterns.specs.Patterns.{anyway, anywayOf, bookUnder};
+ghost use Rattle.method_patterns.specs.Patterns.{bookUnder};
 ghost use Rattle.method_patterns.specs.Endings.{Counted};
 use method_columns::failing;
 use method_columns::whole;
@@ -15,31 +14,7 @@ use method_giving::lists;
 use method_patterns::endings::Counts;
 use method_patterns::patterns;
 use rules::book::Book;
-use rules::book::Section;
 use rules::limits::SECTION_PLACES;
-
-// What fails of a section also with its condition met, given the lots of its notices (01, Expiry, 1.1; 02, n, 1).
-fn failed_met(s: Section, noticed: u64) -> u64
-    ensures { λ r. ⌜ r ≡ anyway s noticed ⌝ }
-{
-    let mut met = s;
-    met.met = true;
-    failing::failed(met, noticed)
-}
-
-// The same of each section held, given the lots of each section's notices (01, Expiry, 1.1; 02, n, 1).
-fn failing_met(b: Book, sums: &[u64], lots: &mut [u64])
-    requires { ⌜ (good b ≡ true) × (length (now lots) ≡ b .held) × (now sums ≡ listed (b .held) (Failing.noticed (filedNotices b))) ⌝ }
-    ensures { λ _. ⌜ now (lots .exit) ≡ anywayOf b ⌝ }
-{
-    let held = b.held;
-    let mut i = 0;
-    while i < held {
-        let s = b.sections[i];
-        lots[i] = failed_met(s, sums[i]);
-        i += 1;
-    }
-}
 
 // All patterns on the columns of a book: what fails as marks stand, and what each section named fails by its mark (02, n, 1 and 4).
 fn on_columns(
@@ -64,8 +39,8 @@ fn on_columns(
     let mut still = [0; SECTION_PLACES];
     let mut own = [0; SECTION_PLACES];
     failing::noticed(selling, stock, &mut noticed[..held]);
-    failing::failing(b, &noticed[..held], &mut fails[..held]);
-    failing_met(b, &noticed[..held], &mut still[..held]);
+    failing::failing(b, &noticed[..held], false, &mut fails[..held]);
+    failing::failing(b, &noticed[..held], true, &mut still[..held]);
     lists::magnitudes(positions, &mut own[..held]);
     patterns::count(
         persons,

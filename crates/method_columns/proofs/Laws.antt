@@ -13,6 +13,7 @@ use Rattle.book_laws.proofs.Held.{listed-good, filed-good, held-codes, held-tol
 use Rattle.method_laws.specs.Columns.{Columns, byKey, settlementsOf, positionsOf, keysOf, noticeLotsIn}
 use Rattle.method_laws.proofs.Columns.{code-at, position-at, codes-long, positions-long, seller-at, stand-at, lots-at, sellers-long, stands-long, lots-long}
 use Rattle.section_code.proofs.Laws.{code-before}
+use Rattle.method_columns.specs.Failing.{failingWith}
 
 module _ (b : Book) (book : Good b) where
   abbrev ss : List Section
@@ -54,6 +55,11 @@ module _ (b : Book) (book : Good b) where
       ⊎-elim (λ (h : i < length ss). omega (arith, ap natAbs (position-at ss e i), listed-good b book i h .position))
       (λ (h : length ss ≤ i). omega (arith, ap natAbs (getD-past positions i (pos 0) (omega (arith, h, positions-long ss e)))))
       (below-or-not i (length ss))
+
+  -- what fails by the marks as they stand (01, Expiry, 1.2)
+  pub marks-fail : failingWith false b ≡ failing ss (filedNotices b)
+  unfolding failing fails
+  marks-fail = refl
 
   -- of the lots of failing sections
   pub failing-within : (i : ℕ) → entry (failing ss (filedNotices b)) i ≤ 1_000_000

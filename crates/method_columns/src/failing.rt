@@ -1,11 +1,11 @@
 // Step 1: who fails.
-ghost use Rattle.rules.specs.Words.{List, _≡_, true, not, cond, _||_, _and_, _≤_, eqb, length, replicate, listed};
+ghost use Rattle.rules.specs.Words.{List, _≡_, true, _≤_, length, replicate, listed};
 ghost use Rattle.rules.specs.declared.book.Notice.{Notice};
-ghost use Rattle.rules.specs.Book.{good, heldSections, filedNotices, positionOf};
-ghost use Rattle.rules.specs.Expiry;
+ghost use Rattle.rules.specs.Book.{good, filedNotices};
 ghost use Rattle.rules.specs.Expiry.Failing;
 ghost use Rattle.rules.specs.Expiry.Passes.{sellersIn};
 ghost use Rattle.method_laws.specs.Columns.{noticeLotsIn, Below, Small};
+ghost use Rattle.method_columns.specs.Failing.{failedLots, failingWith};
 use crate::by_section;
 use rules::book::Book;
 use rules::book::Section;
@@ -20,14 +20,15 @@ pub fn noticed(sellers: &[u8], lots: &[u64], sums: &mut [u64])
     by_section::add(sellers, lots, sums);
 }
 
-// The lots of a section with so many lots in its notices where it fails, and 0 where it is sound (01, Expiry, 1.1; 01, Expiry, 1.2).
-pub fn failed(s: Section, noticed: u64) -> u64
-    ensures { λ r. ⌜ r ≡ cond (not (s .met) || Expiry.isShort (positionOf s) and (not (s .seller) || not (eqb noticed (Expiry.size s)))) (Expiry.size s) 0 ⌝ }
+// The lots of a section with so many lots in its notices where it fails, and 0 where it is sound; its condition counts as met where `met` says so (01, Expiry, 1.1; 01, Expiry, 1.2; 02, n, 1).
+fn failed(met: bool, s: Section, noticed: u64) -> u64
+    ensures { λ r. ⌜ r ≡ failedLots met s noticed ⌝ }
 {
     let position = s.position.0;
     let own = signed::size(position);
     let sound = 0;
-    if !s.met {
+    let condition = met | s.met;
+    if !condition {
         return own;
     }
     if 0 <= position {
@@ -42,16 +43,16 @@ pub fn failed(s: Section, noticed: u64) -> u64
     own
 }
 
-// The lots of the failing sections, and 0 for the sound, given the lots of each section's notices (01, Expiry, 1.2).
-pub fn failing(b: Book, sums: &[u64], lots: &mut [u64])
+// The lots of the failing sections, and 0 for the sound, given the lots of each section's notices; with `met`, as if every condition were met (01, Expiry, 1.2; 02, n, 1).
+pub fn failing(b: Book, sums: &[u64], met: bool, lots: &mut [u64])
     requires { ⌜ (good b ≡ true) × (length (now lots) ≡ b .held) × (now sums ≡ listed (b .held) (Failing.noticed (filedNotices b))) ⌝ }
-    ensures { λ _. ⌜ now (lots .exit) ≡ Failing.failing (heldSections b) (filedNotices b) ⌝ }
+    ensures { λ _. ⌜ now (lots .exit) ≡ failingWith met b ⌝ }
 {
     let held = b.held;
     let mut i = 0;
     while i < held {
         let s = b.sections[i];
-        lots[i] = failed(s, sums[i]);
+        lots[i] = failed(met, s, sums[i]);
         i += 1;
     }
 }

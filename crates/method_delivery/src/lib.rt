@@ -44,7 +44,7 @@ fn keep(
     let mut noticed = [0; SECTION_PLACES];
     let mut failed = [0; SECTION_PLACES];
     failing::noticed(sellers, stock, &mut noticed[..held]);
-    failing::failing(b, &noticed[..held], &mut failed[..held]);
+    failing::failing(b, &noticed[..held], false, &mut failed[..held]);
     remaining::remaining(codes, positions, keys, &failed[..held], kept);
 }
 

@@ -5,7 +5,7 @@ use Rattle.rules.specs.Book.{heldSections, filedNotices}
 use Rattle.rules.specs.Expiry.Failing.{noticed, failing}
 use Rattle.book_laws.proofs.Good.{Good, facts}
 use Rattle.method_laws.specs.Columns.{Small}
-use Rattle.method_columns.proofs.Laws.{failing-within}
+use Rattle.method_columns.proofs.Laws.{marks-fail, failing-within}
 use Rattle.method_delivery.proofs.Book.{columns, held-columns, noticed-columns}
 use Rattle.method_delivery.proofs.keep.Statement.{statement}
 use Rattle.method_delivery.proofs.keep.Tie as tie
@@ -19,8 +19,8 @@ few c = omega (arith, c .pre .1, book c .held)
 noticed-front : (c : tie.After-noticed2) → Front (length (now (c .before .before .before .before .before .before .before .before .args .kept))) (replicate 128 0) (c .noticed2 .last .1 .1 .0)
 noticed-front c = front-of _ _ _ (few (c .before .before .before .before .before .before .before .before)) (c .noticed2 .kept .1 .1 .0)
 
-failed-front : (c : tie.After-failing) → Front (length (now (c .before .before .before .before .before .before .before .before .before .before .before .before .args .kept))) (replicate 128 0) (c .failing .last .1 .1 .0)
-failed-front c = front-of _ _ _ (few (c .before .before .before .before .before .before .before .before .before .before .before .before)) (c .failing .kept .1 .1 .0)
+failed-front : (c : tie.After-failing) → Front (length (now (c .before .before .before .before .before .before .before .before .before .before .before .before .args .kept))) (replicate 128 0) (c .failing .last .1 .1 .1 .0)
+failed-front c = front-of _ _ _ (few (c .before .before .before .before .before .before .before .before .before .before .before .before)) (c .failing .kept .1 .1 .1 .0)
 
 -- the lots of each section's notices, and of the sections that fail
 noticed-is : (c : tie.After-noticed2) → c .noticed2 .last .1 .1 .0 ≡ listed (c .before .before .before .before .before .before .before .before .args .b .held) (noticed (filedNotices (c .before .before .before .before .before .before .before .before .args .b)))
@@ -74,7 +74,7 @@ remaining-requires c κs =
     let start = at .before .before .before .before .before .before .before .before .before .before .before .before in (
       held-columns (book start) (start .pre .2) _ (start .pre .1),
       failed-front at .long,
-      subst Small (sym (failed-front at .is ∙ at .failing .ensures)) (failing-within (start .args .b) (book start)),
+      subst Small (sym (failed-front at .is ∙ at .failing .ensures ∙ marks-fail _ (book start))) (failing-within (start .args .b) (book start)),
     )
 
 same-length : tie.Need-same-length
@@ -85,7 +85,7 @@ returns c =
     let at = c .before .before .before .before .before .before in
     let start = at .before .before .before .before .before .before .before .before .before .before .before .before in
     let b = start .args .b in
-    (c .before .before .remaining .ensures .0 (heldSections b) (filedNotices b) (columns (book start) (start .pre .2)) (failed-front at .is ∙ at .failing .ensures), c .before .before .remaining .ensures .1)
+    (c .before .before .remaining .ensures .0 (heldSections b) (filedNotices b) (columns (book start) (start .pre .2)) (failed-front at .is ∙ at .failing .ensures ∙ marks-fail _ (book start)), c .before .before .remaining .ensures .1)
 
 pub keep-spec : {M : Type 1} → statement M
 keep-spec =

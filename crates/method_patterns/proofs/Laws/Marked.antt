@@ -10,7 +10,8 @@ use Rattle.book_laws.proofs.Good.{Good, facts}
 use Rattle.book_laws.proofs.Held.{held-length}
 use Rattle.book_laws.proofs.Kept.Condition.{condition-kept}
 use Rattle.method_delivery.specs.Lent.{ColumnsOf}
-use Rattle.method_patterns.specs.Patterns.{metIn, bookUnder, anyway, anywayOf, failsMarked, failsUnder, Stands, Marks}
+use Rattle.method_columns.specs.Failing.{failedLots, failingWith}
+use Rattle.method_patterns.specs.Patterns.{metIn, bookUnder, failsMarked, failsUnder, Stands, Marks}
 
 -- what fails is said of each section held
 pub many-failing : {b : Book} {persons codes : List ℕ} {positions : List ℤ} {keys selling stands stock failed : List ℕ} → Stands b persons codes positions keys selling stands stock failed → length failed ≡ b .held
@@ -29,12 +30,8 @@ still-long {b} is marks =
     let book = facts b (is .good-book) in
     ap length (marks .still-are) ∙ listed-length (length (heldSections b)) _ ∙ held-length b (book .section-places) (book .held) ∙ sym (many-failing is)
 
--- the lots of a section that fails with its mark as it is
-abbrev failedLots : Section → ℕ → ℕ
-failedLots s noticed = cond (not (s .met) || isShort (positionOf s) and (not (s .seller) || not (eqb noticed (size s)))) (size s) 0
-
--- with its mark set: all of them, or those that fail still
-marked-lots : (s : Section) (lots : ℕ) (met : Bool) → failedLots (marked s met) lots ≡ cond met (anyway s lots) (size s)
+-- with its mark set: all lots of a section, or those that fail still
+marked-lots : (s : Section) (lots : ℕ) (met : Bool) → failedLots false (marked s met) lots ≡ cond met (failedLots true s lots) (size s)
 unfolding marked
 marked-lots s lots true = refl
 marked-lots s lots false = refl
@@ -95,22 +92,22 @@ module _ (b : Book) (is-good : good b ≡ true) (unexpired : b .expired ≡ fals
       let none = sectionOfNoughts [] in
       sym (List·getD-map f (heldSections next) j none) ∙ ap (λ (ys : List A). getD ys j (f none)) (read-next f same) ∙ List·getD-map f (heldSections b) j none
 
-  still-next : anywayOf b ≡ anywayOf next
+  still-next : failingWith true b ≡ failingWith true next
   unfolding afterCondition marked
   still-next =
       let ns = filedNotices b in
-      listed-same (length (heldSections b)) _ _ (λ j h. sym (each-next (λ (s : Section). anyway s (noticed ns j)) (λ s. refl) j))
-      ∙ ap (λ (n : ℕ). listed n (λ (j : ℕ). anyway (sectionOf (heldSections next) j) (noticed ns j))) (sym next-held)
+      listed-same (length (heldSections b)) _ _ (λ j h. sym (each-next (λ (s : Section). failedLots true s (noticed ns j)) (λ s. refl) j))
+      ∙ ap (λ (n : ℕ). listed n (λ (j : ℕ). failedLots true (sectionOf (heldSections next) j) (noticed ns j))) (sym next-held)
 
   -- one entry of what fails changes (01, Expiry, 1.1)
-  failing-next : set (failing (heldSections b) (filedNotices b)) i (cond met (anyway (sectionOf (heldSections b) i) (noticed (filedNotices b) i)) (size (sectionOf (heldSections b) i))) ≡ failing (heldSections next) (filedNotices next)
+  failing-next : set (failing (heldSections b) (filedNotices b)) i (cond met (failedLots true (sectionOf (heldSections b) i) (noticed (filedNotices b) i)) (size (sectionOf (heldSections b) i))) ≡ failing (heldSections next) (filedNotices next)
   unfolding failing fails afterCondition
   failing-next =
       let ns = filedNotices b in
-      let lots : List Section → ℕ → ℕ = λ (ss : List Section) (j : ℕ). failedLots (sectionOf ss j) (noticed ns j) in
+      let lots : List Section → ℕ → ℕ = λ (ss : List Section) (j : ℕ). failedLots false (sectionOf ss j) (noticed ns j) in
       listed-set (length (heldSections b)) (lots (heldSections b)) (lots (heldSections next)) _ i (omega (arith, known, many-held))
-      (λ j h differs. ap (λ (s : Section). failedLots s (noticed ns j)) (other j differs))
-      (ap (λ (s : Section). failedLots s (noticed ns i)) here ∙ marked-lots (sectionOf (heldSections b) i) (noticed ns i) met)
+      (λ j h differs. ap (λ (s : Section). failedLots false s (noticed ns j)) (other j differs))
+      (ap (λ (s : Section). failedLots false s (noticed ns i)) here ∙ marked-lots (sectionOf (heldSections b) i) (noticed ns i) met)
       ∙ ap (λ (n : ℕ). listed n (lots (heldSections next))) (sym next-held)
 
   -- the columns stand behind the book with the mark
@@ -120,7 +117,7 @@ module _ (b : Book) (is-good : good b ≡ true) (unexpired : b .expired ≡ fals
     next-stands =
         let ss = heldSections b in
         let place : i < length ss = omega (arith, known, many-held) in
-        let fails-still = ap (λ (l : List ℕ). entry l i) (marks .still-are) ∙ listed-at (length ss) (λ (j : ℕ). anyway (sectionOf ss j) (noticed (filedNotices b) j)) i 0 place in
+        let fails-still = ap (λ (l : List ℕ). entry l i) (marks .still-are) ∙ listed-at (length ss) (λ (j : ℕ). failedLots true (sectionOf ss j) (noticed (filedNotices b) j)) i 0 place in
         let fails-whole = ap (λ (l : List ℕ). entry l i) (marks .own-are) ∙ List·getD-map size ss i (sectionOfNoughts []) in
         record {
           good-book = next-good;

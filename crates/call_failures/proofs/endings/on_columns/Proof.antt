@@ -7,6 +7,7 @@ use Rattle.rules.specs.Expiry.{size}
 use Rattle.rules.specs.Expiry.Failing.{noticed}
 use Rattle.book_laws.proofs.Good.{Good, facts}
 use Rattle.method_laws.proofs.Columns.{codes-long, positions-long}
+use Rattle.method_columns.proofs.Laws.{marks-fail}
 use Rattle.method_delivery.proofs.Book.{sections-held, noticed-columns}
 use Rattle.method_patterns.specs.Patterns.{Stands, Marks}
 use Rattle.method_patterns.proofs.Laws.Counting.{counted-own}
@@ -52,19 +53,19 @@ module _ (c : tie.After-failing) where
   abbrev summed : tie.After-noticed2
   summed = c .before .before .before .before
 
-  fails-front : Front (many (first summed)) noughts (c .failing .last .1 .1 .0)
-  fails-front = front-of _ _ _ (few (first summed)) (c .failing .kept .1 .1 .0)
+  fails-front : Front (many (first summed)) noughts (c .failing .last .1 .1 .1 .0)
+  fails-front = front-of _ _ _ (few (first summed)) (c .failing .kept .1 .1 .1 .0)
 
-module _ (c : tie.After-failing-met) where
+module _ (c : tie.After-failing2) where
   abbrev failed : tie.After-failing
   failed = c .before .before .before .before
 
-  still-front : Front (many (first (summed failed))) noughts (c .failing-met .last .1 .1 .0)
-  still-front = front-of _ _ _ (few (first (summed failed))) (c .failing-met .kept .1 .1 .0)
+  still-front : Front (many (first (summed failed))) noughts (c .failing2 .last .1 .1 .1 .0)
+  still-front = front-of _ _ _ (few (first (summed failed))) (c .failing2 .kept .1 .1 .1 .0)
 
 -- what each section has; so the columns stand behind the book, with its marks
 module _ (c : tie.After-magnitudes) where
-  abbrev met : tie.After-failing-met
+  abbrev met : tie.After-failing2
   met = c .before .before .before
 
   abbrev start : tie.Start
@@ -74,10 +75,10 @@ module _ (c : tie.After-magnitudes) where
   own-front = front-of _ _ _ (few start) (c .magnitudes .kept .1 .0)
 
   abbrev fails : List ℕ
-  fails = take (many start) (failed met .failing .last .1 .1 .0 ++ drop (many start) noughts)
+  fails = take (many start) (failed met .failing .last .1 .1 .1 .0 ++ drop (many start) noughts)
 
   abbrev still : List ℕ
-  still = take (many start) (met .failing-met .last .1 .1 .0 ++ drop (many start) noughts)
+  still = take (many start) (met .failing2 .last .1 .1 .1 .0 ++ drop (many start) noughts)
 
   abbrev own : List ℕ
   own = take (many start) (c .magnitudes .last .1 .0 ++ drop (many start) noughts)
@@ -86,14 +87,14 @@ module _ (c : tie.After-magnitudes) where
   own-is = own-front .is ∙ c .magnitudes .ensures ∙ ap (map natAbs) (start .pre .0 .2 .positions-are) ∙ map-map natAbs positionOf (heldSections (start .args .b))
 
   stands : Stands (start .args .b) (now (start .args .persons)) (now (start .args .codes)) (now (start .args .positions)) (now (start .args .keys)) (now (start .args .selling)) (now (start .args .stands)) (now (start .args .stock)) fails
-  stands = record { good-book = start .pre .0 .0; columns = start .pre .0 .2; persons-are = start .pre .0 .3; failed-are = fails-front (failed met) .is ∙ failed met .failing .ensures }
+  stands = record { good-book = start .pre .0 .0; columns = start .pre .0 .2; persons-are = start .pre .0 .3; failed-are = fails-front (failed met) .is ∙ failed met .failing .ensures ∙ marks-fail _ (book start) }
 
   marks : Marks (start .args .b) fails own still (now (start .args .named))
   marks =
       record {
         unexpired = start .pre .0 .1;
         own-are = own-is;
-        still-are = still-front met .is ∙ met .failing-met .ensures;
+        still-are = still-front met .is ∙ met .failing2 .ensures;
         known = λ k h. omega (arith, start .pre .1 .1 k h, held start, fails-front (failed met) .long);
       }
 
@@ -137,17 +138,17 @@ failing-requires c κs = let at = c .before .before .before in (first at .pre .0
 array-share-prefix-noticed-2 : tie.Need-array-share-prefix-noticed-2
 array-share-prefix-noticed-2 c = noticed-front (summed (c .before)) .fits
 
-slice-aggregate-failing-met : tie.Need-slice-aggregate-failing-met
-slice-aggregate-failing-met c = sym (noticed-front (summed (c .before .before)) .long)
+slice-aggregate-failing-3 : tie.Need-slice-aggregate-failing-3
+slice-aggregate-failing-3 c = sym (noticed-front (summed (c .before .before)) .long)
 
 array-borrow-prefix-still : tie.Need-array-borrow-prefix-still
 array-borrow-prefix-still c = few (first (summed (c .before .before)))
 
-slice-aggregate-failing-met-2 : tie.Need-slice-aggregate-failing-met-2
-slice-aggregate-failing-met-2 c = sym (long (first (summed (c .before .before .before))))
+slice-aggregate-failing-4 : tie.Need-slice-aggregate-failing-4
+slice-aggregate-failing-4 c = sym (long (first (summed (c .before .before .before))))
 
-failing-met-requires : tie.Need-failing-met-requires
-failing-met-requires c κs = let at = summed (c .before .before .before) in (first at .pre .0 .0, long (first at) ∙ held (first at), noticed-is at)
+failing-requires-2 : tie.Need-failing-requires-2
+failing-requires-2 c κs = let at = summed (c .before .before .before) in (first at .pre .0 .0, long (first at) ∙ held (first at), noticed-is at)
 
 array-borrow-prefix-own : tie.Need-array-borrow-prefix-own
 array-borrow-prefix-own c = few (first (summed (failed (c .before))))
@@ -199,10 +200,10 @@ on-columns-spec =
     slice-aggregate-failing-2
     failing-requires
     array-share-prefix-noticed-2
-    slice-aggregate-failing-met
+    slice-aggregate-failing-3
     array-borrow-prefix-still
-    slice-aggregate-failing-met-2
-    failing-met-requires
+    slice-aggregate-failing-4
+    failing-requires-2
     array-borrow-prefix-own
     slice-aggregate-magnitudes
     magnitudes-requires

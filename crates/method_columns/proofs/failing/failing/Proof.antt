@@ -1,25 +1,20 @@
 -- The loop's invariant: the lots of the first i sections are in their places.
-use Rattle.numbers.proofs.Words.{ℕ, _-_, _<_, arith, _≡_, sym, ap, ap₂, _∙_, not, cond, _||_, List, [], eqb, length, getD-take, _and_, entry, needs}
-use Rattle.rules.specs.declared.book.{Section.Section}
+use Rattle.numbers.proofs.Words.{ℕ, _-_, _<_, arith, _≡_, sym, ap, ap₂, _∙_, List, [], length, getD-take, entry, needs}
 use Rattle.numbers.proofs.Filled.{Filled, filled-none, filled-length, filled-next, filled-end}
 use Rattle.numbers.proofs.Ranges.{listed-length, listed-at}
-use Rattle.rules.specs.Book.{heldSections, filedNotices, positionOf, sectionOf, sectionAt, sectionOfNoughts}
-use Rattle.rules.specs.Expiry.{size, isShort}
-use Rattle.rules.specs.Expiry.Failing.{noticed, fails, failing}
+use Rattle.rules.specs.Book.{heldSections, filedNotices, sectionOf, sectionOfNoughts}
+use Rattle.rules.specs.Expiry.Failing.{noticed}
 use Rattle.book_laws.proofs.Good.{Good, facts}
 use Rattle.book_laws.proofs.Held.{held-length}
+use Rattle.method_columns.specs.Failing.{failedLots}
 use Rattle.method_columns.proofs.failing.failing.Statement.{statement}
 use Rattle.method_columns.proofs.failing.failing.Tie as tie
 
--- the lots of a section with so many lots in its notices where it fails
-abbrev failed : Section → ℕ → ℕ
-failed s lots = cond (not (s .met) || isShort (positionOf s) and (not (s .seller) || not (eqb lots (size s)))) (size s) 0
-
 abbrev Inv-loop : tie.InvT-loop
-Inv-loop sums lots₀ b held i₀ lots i = Filled (λ (j : ℕ). failed (sectionOf (heldSections b) j) (noticed (filedNotices b) j)) lots₀ lots i
+Inv-loop sums met lots₀ b held i₀ lots i = Filled (λ (j : ℕ). failedLots met (sectionOf (heldSections b) j) (noticed (filedNotices b) j)) lots₀ lots i
 
 abbrev μ-loop : tie.MeasureT-loop
-μ-loop sums lots₀ b held i₀ lots i = held - i
+μ-loop sums met lots₀ b held i₀ lots i = held - i
 
 module _ (c : tie.At-loop Inv-loop μ-loop) where
   abbrev start : tie.Start Inv-loop μ-loop
@@ -81,13 +76,12 @@ loop-again c =
     let at = here .before in
     let b = start at .args .t1 in
     filled-next (at .loop .inv) (room here) (c .failed .result)
-    (c .failed .ensures ∙ ap₂ failed (sym (getD-take (b .held) (b .sections) (at .loop .i) (sectionOfNoughts []) (here .loop-test .taken))) (summed here))
+    (c .failed .ensures ∙ ap₂ (failedLots (start at .args .met)) (sym (getD-take (b .held) (b .sections) (at .loop .i) (sectionOfNoughts []) (here .loop-test .taken))) (summed here))
 
 same-length : tie.Need-same-length Inv-loop μ-loop
 same-length c = filled-length (c .before .loop .inv)
 
 returns : tie.Need-returns Inv-loop μ-loop
-unfolding fails failing
 returns c =
     let at = c .before in
     let b = start at .args .t1 in
