@@ -1,5 +1,7 @@
 // Section codes, and the number that a code stands for: two codes are the same where their numbers are equal, and one stands before
 // the other in byte order where its number is lower.
+#![tactic(auto)]
+
 ghost use Rattle.numbers.specs.Bytes.{big_endian};
 ghost use Rattle.rules.specs.Words.{◌≡◌, ◌+◌, ◌*◌, ◌<◌, same};
 ghost use Rattle.rules.specs.Book.{byte_good, section_code_good};

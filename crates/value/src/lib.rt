@@ -1,4 +1,6 @@
 // The factor K, the value V of a price, and what lots are worth at it.
+#![tactic(auto)]
+
 ghost use Rattle.rules.specs.Words.{◌≡◌, ◌*◌, ◌≤◌, nat_abs};
 ghost use Rattle.rules.specs.Units;
 ghost use Rattle.rules.specs.Value;
