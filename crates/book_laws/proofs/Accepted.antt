@@ -1,8 +1,8 @@
 -- What an accepted call says of its book and its inputs: none of the conditions that would refuse it holds (demand 1).
-use Rattle.numbers.proofs.Words.{ℕ, ◌≤◌, ◌<◌, ◌%◌, arith, ◌≡◌, refl, Bool, true, false, not, ◌||◌, List, leb, ltb, eqb, length, ℤ, pos, neg_ℤ, nat_abs, ◌+ℤ◌, leb-true, leb-false, le-ltb, ltb-false, eqb-true, eqb-false, not-false, between, within, ◌and◌, every}
+use Rattle.numbers.proofs.Words.{ℕ, ◌≤◌, ◌<◌, ◌%◌, arith, ◌≡◌, refl, true, false, List, eqb, length, pos, neg_ℤ, nat_abs, ◌+ℤ◌, leb-true, leb-false, le-ltb, ltb-false, eqb-true, eqb-false, not-false, between, every}
 use Rattle.rules.specs.declared.book.{Book.Book}
 use Rattle.numbers.proofs.Tests.{both, or_left, or_right}
-use Rattle.rules.specs.Book.{good, lot_good, steps_good, factor_good, section_code_good, byte_good, section_at, position_of, held_sections, filed_notices}
+use Rattle.rules.specs.Book.{lot_good, steps_good, factor_good, section_code_good, section_at, position_of, held_sections, filed_notices}
 use Rattle.rules.specs.Calls.{first, unknown, opening_number, section_number, section_code_held, trade_number, party_refusals, size_refusals, room_refusals, exceeds, session_number, condition_number, notice_number, notice_filed, section_answer, trade_answer, session_answer, condition_answer, notice_answer}
 use Rattle.rules.specs.Expiry.Call.{expiry_refusals, expiry_answer}
 use Rattle.rules.specs.History.{Single, answer_of}

@@ -1,5 +1,5 @@
 -- The rules of the book as records of facts, and the law between them and the test `good`.
-use Rattle.numbers.proofs.Words.{ℕ, ◌≤◌, ◌<◌, arith, ◌≡◌, refl, ap, Bool, true, false≢true, ◌&&◌, map, leb, ltb, eqb, length, drop, ℤ, pos, negsuc, nat_abs, le_z, ltb-true, leb-true, le-leb, eqb-true, eq-eqb, between, within, ◌and◌, every, apart, total_ℤ}
+use Rattle.numbers.proofs.Words.{ℕ, ◌≤◌, ◌<◌, arith, ◌≡◌, ap, true, false≢true, map, leb, ltb, eqb, length, drop, ℤ, pos, negsuc, nat_abs, le_z, ltb-true, leb-true, le-leb, eqb-true, eq-eqb, between, within, every, apart, total_ℤ}
 use Rattle.rules.specs.declared.book.{Book.Book, Section.Section, Notice.Notice}
 use Rattle.numbers.proofs.Tests.{both, together}
 use Rattle.numbers.proofs.Whole.{within_zero}

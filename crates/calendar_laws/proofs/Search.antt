@@ -1,5 +1,5 @@
 -- The search for the last trading day: what it finds, and that thirteen weeks are enough for 64 closed dates.
-use Rattle.numbers.proofs.Words.{ℕ, zero, suc, ◌+◌, ◌-◌, ◌%◌, ◌≤◌, ◌<◌, add-zero, arith, ◌≡◌, refl, sym, ap, ◌∙◌, Bool, true, false, not, ◌||◌, true≢false, false≢true, lt-ltb, List, [], ◌∷◌, length, not-suc-le-zero, ascending, ⊎_elim, leb, ◌and◌, ltb-true, leb-true, every, counted, gathered, many, between}
+use Rattle.numbers.proofs.Words.{ℕ, zero, suc, ◌+◌, ◌-◌, ◌%◌, ◌≤◌, ◌<◌, add-zero, arith, ◌≡◌, refl, sym, ap, ◌∙◌, Bool, true, false, not, ◌||◌, true≢false, false≢true, lt-ltb, List, [], ◌∷◌, length, not-suc-le-zero, ascending, ⊎_elim, leb, ◌and◌, ltb-true, leb-true, every, counted, gathered, many}
 use Rattle.numbers.proofs.Tests.{both, below_or_not}
 use Rattle.numbers.proofs.Ranges.{sum_moved}
 use Rattle.numbers.proofs.Counts.{one, many-same, many_within, many_among}

@@ -10,7 +10,7 @@ use Rattle.rules.specs.Book.{good, section_at, notice_at, section_of, notice_of,
 use Rattle.rules.specs.Calls.{first}
 use Rattle.rules.specs.Expiry.{is_long}
 use Rattle.rules.specs.Expiry.Passes.{Line}
-use Rattle.rules.specs.Expiry.Call.{Lists, remaining, lines, kept, lapsed, delivered, expiry_refusals}
+use Rattle.rules.specs.Expiry.Call.{Lists, remaining, lines, kept, expiry_refusals}
 use Rattle.rules.specs.Expiry.SamePerson.{lots_naming}
 use Rattle.rules.specs.History.{Trade, net, Delivered, Register, drawn_lots, line_limit}
 use Rattle.book_laws.proofs.Good.{Good, facts}

@@ -1,5 +1,5 @@
 -- The byte order is a strict total order on strings of equal length, and `same` is their equality.
-use Rattle.numbers.proofs.Words.{ℕ, zero, suc, ◌+◌, ◌≤◌, ◌<◌, arith, ◌≡◌, refl, sym, ap, ap₂, ◌∙◌, ◌⊎◌, inl, inr, ⊎_elim, Bool, true, false, ◌&&◌, ◌||◌, true≢false, false≢true, List, [], ◌∷◌, ltb, eqb, length, drop, drop_of_length-le, ltb-true, ltb-false, eqb-true, lt-ltb, le-ltb, eq-eqb, ne_eqb, same, before}
+use Rattle.numbers.proofs.Words.{ℕ, ◌+◌, ◌≤◌, ◌<◌, arith, ◌≡◌, refl, sym, ap₂, ◌∙◌, ◌⊎◌, inl, inr, ⊎_elim, Bool, true, false, ◌&&◌, ◌||◌, false≢true, List, [], ◌∷◌, ltb, eqb, length, drop, drop_of_length-le, ltb-true, ltb-false, eqb-true, lt-ltb, le-ltb, eq-eqb, ne_eqb, same, before}
 use Rattle.numbers.proofs.Lists.{Has, from_here}
 use Rattle.numbers.proofs.Tests.{eqb_sym, and_left, and_right, or_cases, or_left, or_right}
 

@@ -1,4 +1,4 @@
-use Rattle.numbers.proofs.Words.{rules, eq-eqb, eqb, ◌-◌, arith, ◌≡◌, sym, ◌∙◌, length}
+use Rattle.numbers.proofs.Words.{rules, eq-eqb, eqb, arith, ◌≡◌, sym, ◌∙◌, length}
 use Rattle.numbers.proofs.Tests.{failed, passed, together, fails_right}
 use Rattle.numbers.proofs.Lists.{has, every_next, every_stop, every_end}
 use Rattle.rules.specs.Book.{byte_good}

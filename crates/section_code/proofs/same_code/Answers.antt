@@ -1,4 +1,4 @@
-use Rattle.numbers.proofs.Words.{rules, ◌-◌, arith, ◌≡◌, sym, ◌∙◌, length}
+use Rattle.numbers.proofs.Words.{rules, arith, ◌≡◌, sym, ◌∙◌, length}
 use Rattle.numbers.proofs.Lists.{has}
 use Rattle.numbers.proofs.Bytes.{same_next, same_stop, same_end}
 use Rattle.section_code.proofs.same_code.Goals as goal
