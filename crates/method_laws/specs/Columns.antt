@@ -1,6 +1,7 @@
 -- What the method's code reads of the sections held and of the notices filed: columns, a list of numbers each. Contracts speak of every list of sections, or of
 -- notices, that has these columns.
-use Rattle.rules.specs.Words.{ℕ, ◌<◌, ◌≡◌, Bool, List, map, length, ltb, ℤ, nat_abs, cond, eqb, listed, entry, total, ◌≤◌, entry_ℤ}
+use Rattle.std.specs.Prelude.{ℕ, ◌<◌, ◌≡◌, Bool, List, map, length, ltb, ℤ, nat_abs, cond, eqb, ◌≤◌}
+use Rattle.rules.specs.Words.{listed, entry, total, entry_ℤ}
 use Rattle.numbers.specs.Bytes.{big_endian}
 use Rattle.rules.specs.declared.book.{Section.Section, Notice.Notice}
 use Rattle.rules.specs.Book.{position_of}

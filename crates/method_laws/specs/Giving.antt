@@ -1,5 +1,6 @@
 -- Giving as the code does it: one section after the other. What the definitions say of it is proved equal in proofs/Shares.
-use Rattle.rules.specs.Words.{ℕ, ◌-◌, min, Bool, cond, List, [], ◌∷◌, ltb, length, set, replicate, counted, listed, entry, entry_ℤ, ordered, ℤ, nat_abs}
+use Rattle.std.specs.Prelude.{ℕ, ◌-◌, min, Bool, cond, List, [], ◌∷◌, ltb, length, set, replicate, ℤ, nat_abs}
+use Rattle.rules.specs.Words.{counted, listed, entry, entry_ℤ, ordered}
 use Rattle.rules.specs.declared.book.{Section.Section}
 use Rattle.rules.specs.Book.{settlement_codes, position_of, section_of}
 use Rattle.rules.specs.Expiry.{opposed, agreed, chosen, earlier, shares_in_codes}

@@ -3,7 +3,8 @@
 #![tactic(auto)]
 
 ghost use Rattle.numbers.specs.Bytes.{big_endian};
-ghost use Rattle.rules.specs.Words.{◌≡◌, ◌+◌, ◌*◌, ◌<◌, same};
+ghost use Rattle.std.specs.Prelude.{◌≡◌, ◌+◌, ◌*◌, ◌<◌};
+ghost use Rattle.rules.specs.Words.{same};
 ghost use Rattle.rules.specs.Book.{byte_good, section_code_good};
 
 // Whether a byte is a digit or a capital letter (01, Book, 3).

@@ -1,7 +1,7 @@
 // The factor K, the value V of a price, and what lots are worth at it.
 #![tactic(auto)]
 
-ghost use Rattle.rules.specs.Words.{◌≡◌, ◌*◌, ◌≤◌, nat_abs};
+ghost use Rattle.std.specs.Prelude.{◌≡◌, ◌*◌, ◌≤◌, nat_abs};
 ghost use Rattle.rules.specs.Units;
 ghost use Rattle.rules.specs.Value;
 ghost use Rattle.rules.specs.Value.{value_of};

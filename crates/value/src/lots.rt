@@ -1,5 +1,5 @@
 // Lots, which are never below 0.
-ghost use Rattle.rules.specs.Words.{◌≡◌, min};
+ghost use Rattle.std.specs.Prelude.{◌≡◌, min};
 
 // The smaller of two numbers.
 pub fn smaller(x: u64, y: u64) -> u64

@@ -1,5 +1,5 @@
 // The one rounding: quotient and remainder, the case of the remainder, the result. Each is bound by its definition, for every n and d.
-ghost use Rattle.rules.specs.Words.{◌≡◌, ◌<◌};
+ghost use Rattle.std.specs.Prelude.{◌≡◌, ◌<◌};
 ghost use Rattle.rules.specs.Rounding;
 
 use rules::rounding::{Case, Division};

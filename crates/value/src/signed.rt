@@ -1,5 +1,5 @@
 // Signed arithmetic in leaves that ask only that the result fits, and the test of a limit.
-ghost use Rattle.rules.specs.Words.{◌≡◌, nat_abs, ◌+ℤ◌, ◌-ℤ◌, ◌*ℤ◌};
+ghost use Rattle.std.specs.Prelude.{◌≡◌, nat_abs, ◌+ℤ◌, ◌-ℤ◌, ◌*ℤ◌};
 ghost use Rattle.std.specs.Int.{w64};
 ghost use Rattle.std.proofs.Common.{SFits};
 ghost use Rattle.numbers.specs.Whole;
