@@ -8,7 +8,7 @@ use rules::book::Book;
 use rules::limits::{NOTICE_PLACES, SECTION_PLACES};
 
 // Of the sections held participants, settlement codes, positions and the keys of their codes; of the notices filed sellers, elevators and lots.
-#[derive(Drop)]
+#[derive(Clone, Copy)]
 pub struct Columns {
     pub persons: [u32; SECTION_PLACES],
     pub codes: [u8; SECTION_PLACES],

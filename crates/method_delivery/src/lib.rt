@@ -20,7 +20,7 @@ use rules::limits::SECTION_PLACES;
 mod written;
 
 // How many pairs and lines an expiry formed, and how many lines it kept.
-#[derive(Drop)]
+#[derive(Clone, Copy)]
 pub struct Counts {
     pub pairs: usize,
     pub lines: usize,

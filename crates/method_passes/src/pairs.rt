@@ -4,7 +4,7 @@ ghost use Rattle.method_passes.specs.Formed.{pairs_in, pair_left};
 
 use rules::limits::PAIR_PLACES;
 
-#[derive(Drop)]
+#[derive(Clone, Copy)]
 pub struct Pairs {
     pub buyers: [u8; PAIR_PLACES],
     pub elevators: [u8; PAIR_PLACES],

@@ -8,7 +8,7 @@ use crate::{offers, stage_one, stage_two};
 use rules::limits::ELEVATORS;
 
 // What the passes have formed so far.
-#[derive(Drop)]
+#[derive(Clone, Copy)]
 pub struct Formed {
     pub register: Register,
     // How many pairs.

@@ -4,7 +4,7 @@ ghost use Rattle.method_passes.specs.Formed.{lines_in};
 
 use rules::limits::REGISTER_PLACES;
 
-#[derive(Drop)]
+#[derive(Clone, Copy)]
 pub struct Register {
     pub buyers: [u8; REGISTER_PLACES],
     pub elevators: [u8; REGISTER_PLACES],

@@ -9,7 +9,7 @@ use crate::{fullest, offers, pairs, register};
 use value::lots;
 
 // Which pair, which notice, and how much.
-#[derive(Drop)]
+#[derive(Clone, Copy)]
 struct Choice {
     pair: usize,
     notice: usize,
