@@ -1,4 +1,6 @@
 // Step 6 on columns: the two stages of a pass. Buyers and elevators form pairs, then pairs and notices form lines.
+#![tactic(auto)]
+
 pub mod fullest;
 pub mod offers;
 pub mod pairs;

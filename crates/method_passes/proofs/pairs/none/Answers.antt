@@ -1,0 +1,6 @@
+use Rattle.numbers.proofs.Words.{refl, counted}
+use Rattle.method_passes.proofs.pairs.none.Goals as goal
+
+pub returns : goal.returns
+unfolding counted
+returns c = refl
