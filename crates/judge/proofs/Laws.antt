@@ -1,5 +1,5 @@
 -- No two sections have one code where no two keys are equal, and no two notices are of one section at one elevator.
-use Rattle.numbers.proofs.Words.{ℕ, ◌<◌, arith, ◌≡◌, true, List, map, leb, ltb, eqb, leb-true, eq-eqb, length, every, apart, big_endian}
+use Rattle.numbers.proofs.Words.{ℕ, ◌<◌, arith, ◌≡◌, true, List, map, leb, ltb, eqb, leb-true, eq-eqb, every, apart, big_endian}
 use Rattle.rules.specs.declared.book.{Section.Section, Notice.Notice}
 use Rattle.numbers.proofs.Keys.{two, two_same, apart_keys}
 use Rattle.numbers.proofs.Tests.{both, together}

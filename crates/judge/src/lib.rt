@@ -1,4 +1,6 @@
 // Whether a book keeps its rules. Each function computes the part of the definition `good` that its contract names.
+#![tactic(auto)]
+
 ghost use Rattle.std.specs.Prelude.{◌≡◌};
 ghost use Rattle.rules.specs.Book as Rules;
 ghost use Rattle.rules.specs.Book.{tails_blank};
