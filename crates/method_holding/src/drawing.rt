@@ -1,5 +1,5 @@
 // Step 5: what is drawn of the notices.
-ghost use Rattle.rules.specs.Words.{List, ◌≡◌, ◌≤◌, ◌-◌, min, cond, length};
+ghost use Rattle.std.specs.Prelude.{List, ◌≡◌, ◌≤◌, ◌-◌, min, cond, length};
 ghost use Rattle.rules.specs.declared.book.{Section.Section, Notice.Notice};
 ghost use Rattle.rules.specs.Expiry;
 ghost use Rattle.rules.specs.Expiry.Drawing;

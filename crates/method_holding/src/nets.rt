@@ -1,5 +1,6 @@
 // The net of each settlement code's lots.
-ghost use Rattle.rules.specs.Words.{List, ◌≡◌, ◌≤◌, length, replicate, pos, listed};
+ghost use Rattle.std.specs.Prelude.{List, ◌≡◌, ◌≤◌, length, replicate, pos};
+ghost use Rattle.rules.specs.Words.{listed};
 ghost use Rattle.rules.specs.declared.book.Section.{Section};
 ghost use Rattle.rules.specs.Expiry;
 ghost use Rattle.method_laws.specs.Columns.{settlements_of, positions_of, Below, NetsSmall, Small};
