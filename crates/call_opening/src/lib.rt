@@ -1,4 +1,6 @@
 // Opening a book.
+#![tactic(auto)]
+
 ghost use Rattle.std.specs.Prelude.{◌≡◌};
 ghost use Rattle.rules.specs.Book.{opened, no_book, blank_section, blank_notice};
 ghost use Rattle.rules.specs.Calls as Rules;
