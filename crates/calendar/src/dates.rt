@@ -1,5 +1,5 @@
 // Dates one after the other: whether the calendar has a date, the day after it, and the weekday after a weekday.
-ghost use Rattle.rules.specs.Words.{◌≡◌, ◌<◌};
+ghost use Rattle.std.specs.Prelude.{◌≡◌, ◌<◌};
 ghost use Rattle.rules.specs.Calendar;
 
 use crate::{less_one, row_of};

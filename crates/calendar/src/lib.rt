@@ -1,5 +1,7 @@
 // The Gregorian calendar: the weekday of a date.
-ghost use Rattle.rules.specs.Words.{◌≡◌, ◌-◌};
+#![tactic(auto)]
+
+ghost use Rattle.std.specs.Prelude.{◌≡◌, ◌-◌};
 ghost use Rattle.rules.specs.Calendar;
 
 use rules::dates::{Date, MONTHS};

@@ -1,5 +1,5 @@
 // The weekdays of the tenths, from January 2021 to December 2050.
-ghost use Rattle.rules.specs.Words.{◌≡◌};
+ghost use Rattle.std.specs.Prelude.{◌≡◌};
 ghost use Rattle.rules.specs.Calendar;
 
 use rules::dates::{MONTHS, TENTHS_FROM, TENTHS_TO, TENTHS_YEARS};

@@ -1,5 +1,6 @@
 -- The digits of a word, as they are read.
-use Rattle.rules.specs.Words.{ℕ, ◌+◌, ◌-◌, ◌*◌, min, cond, List, digits_value, is_digit, is_number}
+use Rattle.std.specs.Prelude.{ℕ, ◌+◌, ◌-◌, ◌*◌, min, cond, List}
+use Rattle.rules.specs.Words.{digits_value, is_digit, is_number}
 
 -- one more than the largest number stands for a word that is none
 abbrev pub no_number : ℕ

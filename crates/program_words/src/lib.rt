@@ -1,5 +1,7 @@
 // The words that a program is given: the number in a word of digits.
-ghost use Rattle.rules.specs.Words.{◌≡◌, ◌≤◌};
+#![tactic(auto)]
+
+ghost use Rattle.std.specs.Prelude.{◌≡◌, ◌≤◌};
 ghost use Rattle.program_words.specs.Digits.{no_number, number_or, with_digit};
 
 // One more than the largest number of 32 bits: it stands for a word that is no number.

@@ -1,0 +1,6 @@
+use Rattle.numbers.proofs.Words.{sym, ◌∙◌, ap}
+use Rattle.calendar_laws.proofs.Years.{years_counted, before_year}
+use Rattle.calendar.proofs.days_before_year.Goals as goal
+
+pub returns : goal.returns
+returns c = ap years_counted c.less_one-years.ensures ∙ sym (before_year c.args.year)
