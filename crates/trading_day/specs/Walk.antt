@@ -1,5 +1,5 @@
 -- A walk over numbers that ascend: what is left of them at a number.
-use Rattle.rules.specs.Words.{ℕ, ◌≤◌, ◌≡◌, Bool, false, cond, List, [], ◌∷◌, length, drop, ltb, eqb}
+use Rattle.std.specs.Prelude.{ℕ, ◌≤◌, ◌≡◌, Bool, false, cond, List, [], ◌∷◌, length, drop, ltb, eqb}
 
 -- the numbers from the first one on that is not below n
 unfoldable pub not_below : ℕ → List ℕ → List ℕ

@@ -1,5 +1,6 @@
 // Closed dates, and the walk over them beside the days.
-ghost use Rattle.rules.specs.Words.{◌≡◌, ◌≤◌, length, drop, every, ascending, ◌and◌};
+ghost use Rattle.std.specs.Prelude.{◌≡◌, ◌≤◌, length, drop};
+ghost use Rattle.rules.specs.Words.{every, ascending, ◌and◌};
 ghost use Rattle.rules.specs.LastTradingDay.{closed_good};
 ghost use Rattle.trading_day.specs.Walk.{Passed, starts_with};
 

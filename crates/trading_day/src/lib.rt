@@ -1,5 +1,7 @@
 // The last trading day of a contract: the first one from the 10th of its month on (02, e).
-ghost use Rattle.rules.specs.Words.{◌≡◌};
+#![tactic(auto)]
+
+ghost use Rattle.std.specs.Prelude.{◌≡◌};
 ghost use Rattle.rules.specs.LastTradingDay;
 
 use calendar::table;

@@ -1,5 +1,5 @@
 // Dates as numbers, 20210510 for 10 May 2021.
-ghost use Rattle.rules.specs.Words.{◌≡◌};
+ghost use Rattle.std.specs.Prelude.{◌≡◌};
 ghost use Rattle.rules.specs.LastTradingDay.{number_of_date, date_of_number};
 
 use rules::dates::Date;

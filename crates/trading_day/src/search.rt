@@ -1,5 +1,6 @@
 // The search for a trading day: one walk over the days, and one over the closed dates beside it.
-ghost use Rattle.rules.specs.Words.{◌≡◌, ◌≤◌, ◌||◌, true, drop, ascending};
+ghost use Rattle.std.specs.Prelude.{◌≡◌, ◌≤◌, ◌||◌, true, drop};
+ghost use Rattle.rules.specs.Words.{ascending};
 ghost use Rattle.rules.specs.Calendar;
 ghost use Rattle.rules.specs.LastTradingDay.{weekend, first_trading};
 ghost use Rattle.trading_day.specs.Walk.{starts_with};
