@@ -1,5 +1,6 @@
 -- What fails of the sections held, by their marks or as if every condition were met.
-use Rattle.rules.specs.Words.{ℕ, Bool, not, cond, ◌||◌, List, eqb, length, ◌and◌, listed}
+use Rattle.std.specs.Prelude.{ℕ, Bool, not, cond, ◌||◌, List, eqb, length}
+use Rattle.rules.specs.Words.{◌and◌, listed}
 use Rattle.rules.specs.declared.book.{Book.Book, Section.Section}
 use Rattle.rules.specs.Book.{held_sections, filed_notices, position_of, section_of}
 use Rattle.rules.specs.Expiry.{size, is_short}

@@ -1,5 +1,5 @@
 -- All columns of a book, each in the front of an array.
-use Rattle.rules.specs.Words.{◌≡◌, take}
+use Rattle.std.specs.Prelude.{◌≡◌, take}
 use Rattle.rules.specs.declared.book.{Book.Book}
 use Rattle.rules.specs.Book.{held_sections, filed_notices}
 use Rattle.rules.specs.Expiry.Passes.{sellers_in, elevators_in}

@@ -1,5 +1,6 @@
 // Lots added up by section.
-ghost use Rattle.rules.specs.Words.{ℕ, ◌≡◌, ◌≤◌, ◌+◌, length, listed, entry};
+ghost use Rattle.std.specs.Prelude.{ℕ, ◌≡◌, ◌≤◌, ◌+◌, length};
+ghost use Rattle.rules.specs.Words.{listed, entry};
 ghost use Rattle.method_laws.specs.Columns.{lots_at, Below, Small};
 
 // What each number has is added to the entry of its section (01, Expiry, 1.1; 02, a, 4).

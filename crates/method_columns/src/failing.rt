@@ -1,5 +1,6 @@
 // Step 1: who fails.
-ghost use Rattle.rules.specs.Words.{List, ◌≡◌, true, ◌≤◌, length, replicate, listed};
+ghost use Rattle.std.specs.Prelude.{List, ◌≡◌, true, ◌≤◌, length, replicate};
+ghost use Rattle.rules.specs.Words.{listed};
 ghost use Rattle.rules.specs.declared.book.Notice.{Notice};
 ghost use Rattle.rules.specs.Book.{good, filed_notices};
 ghost use Rattle.rules.specs.Expiry.Failing;

@@ -1,4 +1,6 @@
 // The columns that the method reads, filled once from a good book.
+#![tactic(auto)]
+
 pub mod by_section;
 pub mod failing;
 pub mod notices;

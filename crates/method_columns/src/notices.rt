@@ -1,5 +1,5 @@
 // The columns of the notices filed.
-ghost use Rattle.rules.specs.Words.{◌≡◌, true, length};
+ghost use Rattle.std.specs.Prelude.{◌≡◌, true, length};
 ghost use Rattle.rules.specs.Book.{good, filed_notices};
 ghost use Rattle.rules.specs.Expiry.Passes.{sellers_in, elevators_in};
 ghost use Rattle.method_laws.specs.Columns.{notice_lots_in};

@@ -1,5 +1,5 @@
 // The columns of the sections held.
-ghost use Rattle.rules.specs.Words.{◌≡◌, true, length};
+ghost use Rattle.std.specs.Prelude.{◌≡◌, true, length};
 ghost use Rattle.rules.specs.Book.{good, held_sections};
 ghost use Rattle.method_laws.specs.Columns.{settlements_of, positions_of, keys_of};
 

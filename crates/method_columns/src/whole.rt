@@ -1,5 +1,5 @@
 // All columns of a book, filled once.
-ghost use Rattle.rules.specs.Words.{◌≡◌, true};
+ghost use Rattle.std.specs.Prelude.{◌≡◌, true};
 ghost use Rattle.rules.specs.Book.{good};
 ghost use Rattle.method_columns.specs.Whole.{Whole};
 
