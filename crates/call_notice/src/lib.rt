@@ -1,5 +1,7 @@
 // Filing a notice.
-ghost use Rattle.rules.specs.Words.{◌≡◌, true};
+#![tactic(auto)]
+
+ghost use Rattle.std.specs.Prelude.{◌≡◌, true};
 ghost use Rattle.rules.specs.Book.{good};
 ghost use Rattle.rules.specs.Calls as Rules;
 
