@@ -1,5 +1,6 @@
 -- Lines that sell to the same person, by the participants of the sections (document 02, a).
-use Rattle.rules.specs.Words.{ℕ, ◌+◌, ◌≤◌, ◌<◌, Bool, not, cond, List, map, eqb, length, ◌and◌, passing, listed, entry, total}
+use Rattle.std.specs.Prelude.{ℕ, ◌+◌, ◌≤◌, ◌<◌, Bool, not, cond, List, map, eqb, length}
+use Rattle.rules.specs.Words.{◌and◌, passing, listed, entry, total}
 use Rattle.rules.specs.Expiry.Passes.{Line}
 use Rattle.method_passes.specs.declared.register.{Register.Register}
 use Rattle.method_passes.specs.Formed.{line_in}

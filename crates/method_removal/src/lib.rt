@@ -1,5 +1,8 @@
 // Lines that sell to the same person are taken out of the register, and their lots lapse (document 02, a).
-ghost use Rattle.rules.specs.Words.{◌≡◌, ◌<◌, ◌+◌, eqb, cond, length, replicate, entry};
+#![tactic(auto)]
+
+ghost use Rattle.std.specs.Prelude.{◌≡◌, ◌<◌, ◌+◌, eqb, cond, length, replicate};
+ghost use Rattle.rules.specs.Words.{entry};
 ghost use Rattle.method_passes.specs.Formed.{lines_in};
 ghost use Rattle.method_removal.specs.Removed.{kept_by, removed_by, lapsed_by, Known};
 
