@@ -1,5 +1,6 @@
 -- Columns of so many sections, within the limits of a good book.
-use Rattle.rules.specs.Words.{ℕ, ◌≡◌, ◌≤◌, ◌<◌, List, length, ℤ, nat_abs, entry, entry_ℤ}
+use Rattle.std.specs.Prelude.{ℕ, ◌≡◌, ◌≤◌, ◌<◌, List, length, ℤ, nat_abs}
+use Rattle.rules.specs.Words.{entry, entry_ℤ}
 
 pub record Held (codes : List ℕ) (positions : List ℤ) (keys : List ℕ) (sections : ℕ) : Type 0 where
   pub few : sections ≤ 128

@@ -1,5 +1,6 @@
 // Step 3: what is left open is closed over all codes together.
-ghost use Rattle.rules.specs.Words.{ℕ, List, ◌≡◌, cond, nat_abs, ◌+ℤ◌, length, replicate, entry_ℤ, listed, total_ℤ};
+ghost use Rattle.std.specs.Prelude.{ℕ, List, ◌≡◌, cond, nat_abs, ◌+ℤ◌, length, replicate};
+ghost use Rattle.rules.specs.Words.{entry_ℤ, listed, total_ℤ};
 ghost use Rattle.rules.specs.declared.book.Section.{Section};
 ghost use Rattle.rules.specs.Expiry;
 ghost use Rattle.rules.specs.Expiry.Across;

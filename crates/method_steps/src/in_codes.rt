@@ -1,5 +1,5 @@
 // Steps 2 and 4: each settlement code by itself.
-ghost use Rattle.rules.specs.Words.{List, ◌≡◌, length, replicate};
+ghost use Rattle.std.specs.Prelude.{List, ◌≡◌, length, replicate};
 ghost use Rattle.rules.specs.declared.book.Section.{Section};
 ghost use Rattle.method_laws.specs.Columns.{Columns, AtMost, NetsSmall};
 ghost use Rattle.method_laws.specs.Giving;

@@ -1,4 +1,6 @@
 // Steps 1 to 4 of the method on columns: what is left of each section and what is terminated, and what of it goes outside.
+#![tactic(auto)]
+
 pub mod across;
 pub mod in_codes;
 pub mod ordered;

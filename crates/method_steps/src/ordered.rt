@@ -1,5 +1,5 @@
 // Sections put in an order give what they have.
-ghost use Rattle.rules.specs.Words.{List, ◌≡◌, length, replicate};
+ghost use Rattle.std.specs.Prelude.{List, ◌≡◌, length, replicate};
 ghost use Rattle.rules.specs.declared.book.Section.{Section};
 ghost use Rattle.rules.specs.Expiry.{lower_section_code};
 ghost use Rattle.method_laws.specs.Columns.{Columns, AtMost};

@@ -1,5 +1,5 @@
 // Step 4: what goes outside.
-ghost use Rattle.rules.specs.Words.{List, ◌≡◌, length, replicate};
+ghost use Rattle.std.specs.Prelude.{List, ◌≡◌, length, replicate};
 ghost use Rattle.rules.specs.declared.book.Section.{Section};
 ghost use Rattle.rules.specs.Expiry.Outside;
 ghost use Rattle.method_laws.specs.Columns.{Columns, AtMost, Small};

@@ -1,5 +1,6 @@
 // Steps 1 to 3 together.
-ghost use Rattle.rules.specs.Words.{List, ◌≡◌, map, nat_abs, length, less};
+ghost use Rattle.std.specs.Prelude.{List, ◌≡◌, map, nat_abs, length};
+ghost use Rattle.rules.specs.Words.{less};
 ghost use Rattle.rules.specs.declared.book.{Section.Section, Notice.Notice};
 ghost use Rattle.rules.specs.Expiry.Across;
 ghost use Rattle.rules.specs.Expiry.Call;
