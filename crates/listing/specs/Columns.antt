@@ -1,5 +1,6 @@
 -- The rows of a listing over what the writer is lent: the section codes end to end, and the lists (01, Program, 1).
-use Rattle.rules.specs.Words.{ℕ, ◌*◌, List, [], ◌∷◌, ◌++◌, flat_map, counted, entry, entry_ℤ, ℤ, pos, take, drop, decimal, signed_decimal, bytes}
+use Rattle.std.specs.Prelude.{ℕ, ◌*◌, List, [], ◌∷◌, ◌++◌, ℤ, pos, take, drop}
+use Rattle.rules.specs.Words.{flat_map, counted, entry, entry_ℤ, decimal, signed_decimal, bytes}
 use Rattle.rules.specs.declared.{units.Tonnes.Tonnes, book.Book.Book}
 use Rattle.rules.specs.Units.{tonnes_of}
 use Rattle.rules.specs.File.{Lent}

@@ -1,5 +1,6 @@
 -- A text laid into a list from a place on.
-use Rattle.rules.specs.Words.{ℕ, ◌+◌, ◌≡◌, List, length, put}
+use Rattle.std.specs.Prelude.{ℕ, ◌+◌, ◌≡◌, List, length}
+use Rattle.rules.specs.Words.{put}
 
 -- `now` is `was` with the text at a place, and `next` is the place after the text
 pub record Laid (was : List ℕ) (at : ℕ) (text : List ℕ) (now : List ℕ) (next : ℕ) : Type 0 where

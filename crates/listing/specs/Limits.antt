@@ -1,5 +1,6 @@
 -- The limits within which a listing's length is bounded: what the papers give to every book and to every line, and the widths of a section's numbers, whether an expiry left them or not (02, m, 2 and 4).
-use Rattle.rules.specs.Words.{ℕ, ◌≤◌, ◌<◌, ◌≡◌, List, ℤ, nat_abs, length, entry, entry_ℤ}
+use Rattle.std.specs.Prelude.{ℕ, ◌≤◌, ◌<◌, ◌≡◌, List, ℤ, nat_abs, length}
+use Rattle.rules.specs.Words.{entry, entry_ℤ}
 use Rattle.rules.specs.declared.book.{Book.Book}
 use Rattle.rules.specs.Book.{section_at}
 

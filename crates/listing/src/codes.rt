@@ -1,5 +1,5 @@
 // The section codes of a book, end to end.
-ghost use Rattle.rules.specs.Words.{ℕ, ◌≡◌, ◌<◌, length};
+ghost use Rattle.std.specs.Prelude.{ℕ, ◌≡◌, ◌<◌, length};
 ghost use Rattle.rules.specs.Book.{section_at};
 ghost use Rattle.listing.specs.Columns.{code_at};
 

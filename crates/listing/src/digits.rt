@@ -1,5 +1,6 @@
 // A number in base ten.
-ghost use Rattle.rules.specs.Words.{◌≡◌, ◌<◌, ◌+◌, ◌%◌, length, drop, decimal};
+ghost use Rattle.std.specs.Prelude.{◌≡◌, ◌<◌, ◌+◌, ◌%◌, length, drop};
+ghost use Rattle.rules.specs.Words.{decimal};
 
 // The digits of a number, written from the back; it answers where they start (01, Program, 1).
 pub fn laid(n: u64, digits: &mut [u8]) -> usize

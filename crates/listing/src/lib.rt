@@ -1,5 +1,8 @@
 // What the program prints, written into a lent buffer.
-ghost use Rattle.rules.specs.Words.{ℕ, ◌≡◌, ◌+◌, ◌≤◌, ◌<◌, length, entry, over};
+#![tactic(auto)]
+
+ghost use Rattle.std.specs.Prelude.{ℕ, ◌≡◌, ◌+◌, ◌≤◌, ◌<◌, length};
+ghost use Rattle.rules.specs.Words.{entry, over};
 ghost use Rattle.rules.specs.Listing.{refusal_row};
 ghost use Rattle.listing.specs.Columns.{refused_row, listing};
 ghost use Rattle.listing.specs.Laid.{Laid};

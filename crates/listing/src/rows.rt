@@ -1,5 +1,6 @@
 // The rows of a listing, written into a buffer from a place on. Each function answers the next place.
-ghost use Rattle.rules.specs.Words.{ℕ, ◌+◌, ◌≡◌, ◌≤◌, ◌<◌, nat_abs, length, entry};
+ghost use Rattle.std.specs.Prelude.{ℕ, ◌+◌, ◌≡◌, ◌≤◌, ◌<◌, nat_abs, length};
+ghost use Rattle.rules.specs.Words.{entry};
 ghost use Rattle.rules.specs.Units;
 ghost use Rattle.listing.specs.Columns.{head_row, line_row_of, line_rows, lots_fields, section_row_of, section_rows};
 ghost use Rattle.listing.specs.Laid.{Laid};

@@ -1,5 +1,6 @@
 // Texts and numbers, each with the byte that ends it, written into a buffer from a place on. Each answers the next place.
-ghost use Rattle.rules.specs.Words.{◌+◌, ◌*◌, ◌≤◌, ◌<◌, [], ◌∷◌, length, decimal, signed_decimal};
+ghost use Rattle.std.specs.Prelude.{◌+◌, ◌*◌, ◌≤◌, ◌<◌, [], ◌∷◌, length};
+ghost use Rattle.rules.specs.Words.{decimal, signed_decimal};
 ghost use Rattle.rules.specs.Listing.{row};
 ghost use Rattle.listing.specs.Columns.{code_at, field};
 ghost use Rattle.listing.specs.Laid.{Laid};
