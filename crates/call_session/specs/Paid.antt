@@ -1,5 +1,6 @@
 -- What a session leaves in a list that it pays margins into.
-use Rattle.rules.specs.Words.{ℕ, Bool, cond, List, ℤ, pos, ◌+ℤ◌, listed, entry_ℤ, over}
+use Rattle.std.specs.Prelude.{ℕ, Bool, cond, List, ℤ, pos, ◌+ℤ◌}
+use Rattle.rules.specs.Words.{listed, entry_ℤ, over}
 use Rattle.rules.specs.declared.book.{Book.Book}
 use Rattle.rules.specs.Book.{section_at, value_at}
 use Rattle.rules.specs.Calls.{margin_of}

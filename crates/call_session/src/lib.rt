@@ -1,5 +1,7 @@
 // A session: margins are paid, and bases start anew from the session's value.
-ghost use Rattle.rules.specs.Words.{ℕ, ◌≡◌, true, cond, ◌≤◌, ◌<◌, nat_abs, length, pos, ◌+ℤ◌};
+#![tactic(auto)]
+
+ghost use Rattle.std.specs.Prelude.{ℕ, ◌≡◌, true, cond, ◌≤◌, ◌<◌, nat_abs, length, pos, ◌+ℤ◌};
 ghost use Rattle.rules.specs.Book.{good, position_of, basis_of};
 ghost use Rattle.rules.specs.Calls as Rules;
 ghost use Rattle.call_session.specs.Paid.{paid_to, paid_into};
