@@ -1,5 +1,5 @@
--- Entries that are as asked, one entry after the other as a loop goes; a list past whose end an entry is changed.
-use Rattle.numbers.proofs.Words.{ℕ, suc, ◌+◌, ◌≤◌, ◌<◌, arith, ◌≡◌, refl, sym, ap, ◌∙◌, Bool, true, false, cond, ◌&&◌, List, ◌∷◌, ⊎_elim, eqb, ltb, lt-ltb, ltb-false, length, set, set_out, drop, drop_of_length-le, entry, passing}
+-- Entries that are as asked, one entry after the other as a loop goes.
+use Rattle.numbers.proofs.Words.{ℕ, suc, ◌+◌, ◌≤◌, ◌<◌, arith, ◌≡◌, sym, ap, ◌∙◌, Bool, true, false, cond, ◌&&◌, List, ◌∷◌, ⊎_elim, eqb, ltb, lt-ltb, ltb-false, length, drop, drop_of_length-le, entry, passing}
 use Rattle.numbers.proofs.Tests.{below_or_not}
 use Rattle.numbers.proofs.Lists.{Has, has, from_here}
 use Rattle.list_leaves.specs.Leaves.{alike, place_of}
@@ -14,9 +14,6 @@ pub record Counted (n : ℕ) (xs : List ℕ) (count i : ℕ) : Type 0 where
   pub few : count ≤ i
   pub within : i ≤ length xs
   pub all : count + alike n (drop i xs) ≡ alike n xs
-
-pub counted_none : (n : ℕ) (xs : List ℕ) → Counted n xs 0 0
-counted_none n xs = record { few = omega arith; within = omega arith; all = omega arith }
 
 module _ {n : ℕ} {xs : List ℕ} {count i : ℕ} (so_far : Counted n xs count i) where
   pub counted_next : i < length xs → (more : ℕ) → more ≡ cond (eqb (entry xs i) n) 1 0 → more ≤ 1 → Counted n xs (count + more) (i + 1)
@@ -48,8 +45,3 @@ module _ (x y : ℕ) (xs ys : List ℕ) (i : ℕ) where
       (λ (h : i < length xs). rw (from_here (has xs i 0 h), drop_of_length-le ys (ltb-false i (length ys) (rw (lt-ltb i (length xs) h) at e))))
       (λ (h : length xs ≤ i). rw (drop_of_length-le xs h))
       (below_or_not i (length xs))
-
--- past the end nothing changes, whatever is tested
-pub past_same : {A : Type 0} (t : Bool) (xs : List A) (i : ℕ) (x : A) → length xs ≤ i → xs ≡ cond t (set xs i x) xs
-past_same true xs i x h = sym (set_out xs i x h)
-past_same false xs i x h = refl

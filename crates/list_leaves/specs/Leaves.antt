@@ -1,5 +1,6 @@
 -- Entries of lists: how many are alike, where two lists have two numbers, and what a list is when one entry has changed.
-use Rattle.rules.specs.Words.{ℕ, suc, ◌+◌, ◌-◌, Bool, cond, List, [], ◌∷◌, length, set, ltb, eqb, ℤ, pos, negsuc, ◌+ℤ◌, le_z, ◌and◌, passing, entry, entry_ℤ}
+use Rattle.std.specs.Prelude.{ℕ, suc, ◌+◌, ◌-◌, Bool, cond, List, [], ◌∷◌, length, set, ltb, eqb, ℤ, pos, negsuc, ◌+ℤ◌}
+use Rattle.rules.specs.Words.{le_z, ◌and◌, passing, entry, entry_ℤ}
 
 -- how many entries are n
 abbrev pub alike : ℕ → List ℕ → ℕ

@@ -1,5 +1,6 @@
 // One entry of a list becomes less, or more.
-ghost use Rattle.rules.specs.Words.{◌≡◌, ◌-◌, ◌+ℤ◌, entry};
+ghost use Rattle.std.specs.Prelude.{◌≡◌, ◌-◌, ◌+ℤ◌};
+ghost use Rattle.rules.specs.Words.{entry};
 ghost use Rattle.list_leaves.specs.Leaves;
 
 use value::lots::smaller;

@@ -1,5 +1,6 @@
 // Entry i of a list, 0 past its end, for each width.
-ghost use Rattle.rules.specs.Words.{◌≡◌, entry, entry_ℤ};
+ghost use Rattle.std.specs.Prelude.{◌≡◌};
+ghost use Rattle.rules.specs.Words.{entry, entry_ℤ};
 
 // Lots, or keys.
 pub fn nth(list: &[u64], i: usize) -> u64

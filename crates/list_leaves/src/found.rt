@@ -1,5 +1,5 @@
 // Entries that are as asked: how many, and where the first stands.
-ghost use Rattle.rules.specs.Words.{◌≡◌, ◌≤◌, cond};
+ghost use Rattle.std.specs.Prelude.{◌≡◌, ◌≤◌, cond};
 ghost use Rattle.list_leaves.specs.Leaves;
 
 // What an entry adds to a count.
