@@ -1,5 +1,6 @@
 // The lots of the sections that a step takes, and 0 for all others.
-ghost use Rattle.rules.specs.Words.{List, ◌≡◌, cond, length, entry_ℤ};
+ghost use Rattle.std.specs.Prelude.{List, ◌≡◌, cond, length};
+ghost use Rattle.rules.specs.Words.{entry_ℤ};
 ghost use Rattle.rules.specs.declared.book.Section.{Section};
 ghost use Rattle.rules.specs.Book.{position_of};
 ghost use Rattle.rules.specs.Expiry;

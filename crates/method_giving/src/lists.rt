@@ -1,5 +1,6 @@
 // Lists of lots.
-ghost use Rattle.rules.specs.Words.{◌≡◌, map, ℕ, ◌≤◌, ◌-◌, length, nat_abs, entry, total};
+ghost use Rattle.std.specs.Prelude.{◌≡◌, map, ℕ, ◌≤◌, ◌-◌, length, nat_abs};
+ghost use Rattle.rules.specs.Words.{entry, total};
 ghost use Rattle.numbers.specs.Lists as Lists;
 
 use value::signed;

@@ -1,5 +1,5 @@
 // Sections of an order give what they have, while their code's cap and the whole need last.
-ghost use Rattle.rules.specs.Words.{List, ◌≡◌, length};
+ghost use Rattle.std.specs.Prelude.{List, ◌≡◌, length};
 ghost use Rattle.rules.specs.declared.book.Section.{Section};
 ghost use Rattle.method_laws.specs.Columns.{settlements_of, AtMost, Below};
 ghost use Rattle.method_laws.specs.Giving.{taken_from};
