@@ -1,5 +1,5 @@
 -- The passes by columns are those of the sections and the notices that have these columns; the lines of some of them are no more than those of all.
-use Rattle.numbers.proofs.Words.{ℕ, zero, suc, ◌+◌, ◌-◌, ◌*◌, ◌≤◌, ◌<◌, add-zero, arith, ◌≡◌, refl, sym, ap, ap₂, subst, ◌∙◌, Bool, cond, List, [], ◌∷◌, ◌++◌, map, flat_map, length, take, length-append, eqb, ℤ, ◌&&◌, add-one, counted, listed, entry, entry_ℤ, less}
+use Rattle.numbers.proofs.Words.{ℕ, zero, suc, ◌+◌, ◌-◌, ◌*◌, ◌≤◌, ◌<◌, add-zero, arith, ◌≡◌, refl, sym, ap, ap₂, subst, ◌∙◌, Bool, cond, List, [], ◌∷◌, ◌++◌, map, flat_map, length, length-append, eqb, ℤ, ◌&&◌, add-one, counted, listed, entry, entry_ℤ, less}
 use Rattle.numbers.proofs.Lists.{flat_map_last}
 use Rattle.numbers.proofs.Ranges.{listed-length, listed_at, listed_same, listed_more, listed_under, less_at}
 use Rattle.numbers.proofs.Under.{under_two}

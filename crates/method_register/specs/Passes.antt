@@ -1,5 +1,6 @@
 -- The passes of an expiry by their columns, and what they ask of them.
-use Rattle.rules.specs.Words.{ℕ, ◌≡◌, ◌≤◌, ◌<◌, cond, eqb, List, length, listed, ℤ, entry, entry_ℤ, less}
+use Rattle.std.specs.Prelude.{ℕ, ◌≡◌, ◌≤◌, ◌<◌, cond, eqb, List, length, ℤ}
+use Rattle.rules.specs.Words.{listed, entry, entry_ℤ, less}
 use Rattle.rules.specs.declared.book.{Section.Section, Notice.Notice}
 use Rattle.rules.specs.Book.{settlement_codes}
 use Rattle.rules.specs.Expiry.{is_long, Outside.outside}

@@ -1,5 +1,6 @@
 // What a pass takes: lots of its buyers, and what is drawn for it of the notices.
-ghost use Rattle.rules.specs.Words.{ℕ, ◌≡◌, ◌<◌, cond, length, entry};
+ghost use Rattle.std.specs.Prelude.{ℕ, ◌≡◌, ◌<◌, cond, length};
+ghost use Rattle.rules.specs.Words.{entry};
 ghost use Rattle.method_register.specs.Passes.{long_lots, lots_in_code, drawn_in_code};
 
 // The lots where the test passes, and 0 else.

@@ -1,5 +1,6 @@
 // What the inside passes and the outside pass have to deliver: lots of sections, and what is drawn of the notices for them.
-ghost use Rattle.rules.specs.Words.{ℕ, List, ◌≡◌, ◌≤◌, length, replicate, entry, less};
+ghost use Rattle.std.specs.Prelude.{ℕ, List, ◌≡◌, ◌≤◌, length, replicate};
+ghost use Rattle.rules.specs.Words.{entry, less};
 ghost use Rattle.rules.specs.declared.book.{Section.Section, Notice.Notice};
 ghost use Rattle.rules.specs.Expiry.Drawing.{drawn};
 ghost use Rattle.method_steps.specs.Held.{Held};

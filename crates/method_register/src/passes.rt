@@ -1,5 +1,6 @@
 // The passes of an expiry one after the other.
-ghost use Rattle.rules.specs.Words.{◌≡◌, ◌+◌, ◌≤◌, ◌<◌, ◌++◌, List, [], flat_map, length};
+ghost use Rattle.std.specs.Prelude.{◌≡◌, ◌+◌, ◌≤◌, ◌<◌, ◌++◌, List, [], length};
+ghost use Rattle.rules.specs.Words.{flat_map};
 ghost use Rattle.rules.specs.declared.book.{Section.Section, Notice.Notice};
 ghost use Rattle.rules.specs.Expiry.Call;
 ghost use Rattle.method_passes.specs.Formed.{lines_in};
