@@ -1,5 +1,5 @@
 -- A trade by what a good book says of it: its marks and counts, and the sections at the places of the two.
-use Rattle.rules.specs.Words.{ℕ, min, ◌≤◌, Bool, cond, ◌||◌, leb, eqb, pos, neg_ℤ, nat_abs}
+use Rattle.std.specs.Prelude.{ℕ, min, ◌≤◌, Bool, cond, ◌||◌, leb, eqb, pos, neg_ℤ, nat_abs}
 use Rattle.rules.specs.declared.{book.Section.Section, units.Kopecks.Kopecks}
 use Rattle.rules.specs.Book.{position_of, basis_of, trades_most}
 use Rattle.rules.specs.Calls.{first, size_refusals, exceeds}

@@ -1,5 +1,7 @@
 // A trade.
-ghost use Rattle.rules.specs.Words.{◌≡◌, true, ◌≤◌, nat_abs, pos, neg_ℤ};
+#![tactic(auto)]
+
+ghost use Rattle.std.specs.Prelude.{◌≡◌, true, ◌≤◌, nat_abs, pos, neg_ℤ};
 ghost use Rattle.rules.specs.Book.{good, position_of, basis_of};
 ghost use Rattle.rules.specs.Calls.{first, handed_out};
 ghost use Rattle.rules.specs.Calls as Rules;
