@@ -1,5 +1,6 @@
 -- The texts of `calls` over what the writer is lent.
-use Rattle.rules.specs.Words.{ℕ, ◌+◌, List, [], ◌∷◌, cond, ltb, flat_map, counted, entry, entry_ℤ, ℤ, length, bytes, decimal, signed_decimal}
+use Rattle.std.specs.Prelude.{ℕ, ◌+◌, List, [], ◌∷◌, cond, ltb, ℤ, length}
+use Rattle.rules.specs.Words.{flat_map, counted, entry, entry_ℤ, bytes, decimal, signed_decimal}
 use Rattle.rules.specs.declared.book.{Book.Book}
 use Rattle.rules.specs.Listing.{row}
 use Rattle.rules.specs.CallsListing.{call_row, delivery_rows}

@@ -1,5 +1,5 @@
 // The last fields of a row, as many as there are, and the bytes that end them.
-ghost use Rattle.rules.specs.Words.{◌+◌, ◌≡◌, ◌≤◌, length};
+ghost use Rattle.std.specs.Prelude.{◌+◌, ◌≡◌, ◌≤◌, length};
 ghost use Rattle.listing.specs.Laid.{Laid};
 ghost use Rattle.calls_listing.specs.Texts.{end_at, wholes};
 

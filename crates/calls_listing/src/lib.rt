@@ -1,5 +1,8 @@
 // What the program `calls` prints, written into a lent buffer from a place on. Each function answers the next place.
-ghost use Rattle.rules.specs.Words.{ℕ, ◌+◌, ◌≤◌, ◌<◌, length, entry};
+#![tactic(auto)]
+
+ghost use Rattle.std.specs.Prelude.{ℕ, ◌+◌, ◌≤◌, ◌<◌, length};
+ghost use Rattle.rules.specs.Words.{entry};
 ghost use Rattle.rules.specs.CallsListing.{call_row, margins_row};
 ghost use Rattle.listing.specs.Laid.{Laid};
 ghost use Rattle.calls_listing.specs.Texts.{answer_rows, counts_row, delivery};

@@ -1,5 +1,5 @@
 // The rows of the sections' lots, written into a buffer from a place on.
-ghost use Rattle.rules.specs.Words.{◌+◌, ◌≡◌, ◌≤◌, length};
+ghost use Rattle.std.specs.Prelude.{◌+◌, ◌≡◌, ◌≤◌, length};
 ghost use Rattle.listing.specs.Laid.{Laid};
 ghost use Rattle.calls_listing.specs.Texts.{lots_rows};
 
