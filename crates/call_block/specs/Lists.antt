@@ -1,5 +1,5 @@
 -- A block by the four lists that a call lends, and a book on the way through its trades.
-use Rattle.rules.specs.Words.{ℕ, List}
+use Rattle.std.specs.Prelude.{ℕ, List}
 use Rattle.rules.specs.declared.book.{Book.Book, Section.Section}
 use Rattle.rules.specs.Book.{with_sections, with_last}
 use Rattle.rules.specs.Blocks.{Block}

@@ -1,5 +1,7 @@
 // A block of trades in one call.
-ghost use Rattle.rules.specs.Words.{◌≡◌, ◌+◌, ◌<◌, true, not, cond, ◌||◌, eqb, length};
+#![tactic(auto)]
+
+ghost use Rattle.std.specs.Prelude.{◌≡◌, ◌+◌, ◌<◌, true, not, cond, ◌||◌, eqb, length};
 ghost use Rattle.rules.specs.Book.{good};
 ghost use Rattle.rules.specs.Blocks as Rules;
 ghost use Rattle.rules.specs.Calls.{handed_out};
