@@ -1,5 +1,5 @@
 -- The lists that an expiry is lent, and the columns of the book that expires.
-use Rattle.rules.specs.Words.{ℕ, ◌≡◌, ◌≤◌, List, length, ℤ}
+use Rattle.std.specs.Prelude.{ℕ, ◌≡◌, ◌≤◌, List, length, ℤ}
 use Rattle.rules.specs.declared.book.{Book.Book}
 use Rattle.rules.specs.Book.{held_sections, filed_notices}
 use Rattle.rules.specs.Expiry.Call as Call

@@ -1,5 +1,8 @@
 // The method whole, on the columns of a good book, and what it writes into the lists of an expiry.
-ghost use Rattle.rules.specs.Words.{ℕ, ◌≡◌, ◌≤◌, true, map, nat_abs, length, replicate, entry_ℤ, less, over};
+#![tactic(auto)]
+
+ghost use Rattle.std.specs.Prelude.{ℕ, ◌≡◌, ◌≤◌, true, map, nat_abs, length, replicate};
+ghost use Rattle.rules.specs.Words.{entry_ℤ, less, over};
 ghost use Rattle.rules.specs.Book.{good, held_sections};
 ghost use Rattle.rules.specs.Expiry.Call;
 ghost use Rattle.rules.specs.Expiry.Passes.{buyers_of, elevators_of, sellers_of, lots_of};

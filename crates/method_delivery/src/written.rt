@@ -1,5 +1,6 @@
 // The first entries of a column written over those of a lent list; later entries remain.
-ghost use Rattle.rules.specs.Words.{◌≡◌, ◌≤◌, length, listed, entry, over};
+ghost use Rattle.std.specs.Prelude.{◌≡◌, ◌≤◌, length};
+ghost use Rattle.rules.specs.Words.{listed, entry, over};
 ghost use Rattle.method_laws.specs.Columns.{Small};
 
 // Numbers of sections or of elevators (01, Expiry call, 2).
