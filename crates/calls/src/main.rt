@@ -5,45 +5,41 @@ ghost use Rattle.calls.specs.Printing.{Printing};
 use program_io::INPUT_BYTES;
 use rules::book::Book;
 use rules::limits::ACCEPTED;
+use std::io;
 
 // The most bytes that a step prints: nine for each event, a block of them all (02, b, 3).
 const TEXT_BYTES: usize = 34_200;
 
 // The events one after the other, each with the book handed out just before. What a step prints is written out before the next one; after a failure nothing more is.
-fn print_events(file: &[u8], n: usize, start: Book, out: &mut [u8])
+fn print_events(rt: &impl Print, file: &[u8], n: usize, start: Book, out: &mut [u8]) -> io::Result<()>
     requires { Printing file.now n 0 start × (length out.old ≡ 34_200) }
 {
     let mut book = start;
     let mut place = 0;
-    let mut more = true;
-    while (place < n) & more {
+    while place < n {
         let shown = file_calls::step(file, n, place, book, out);
         let written = shown.written;
-        more = program_io::write_output(&out[..written]);
+        program_io::write_output(rt, &out[..written])?;
         place = shown.next;
         book = shown.book;
     }
+    Ok(())
 }
 
-fn print(file: &[u8]) {
+fn print(rt: &impl Print, file: &[u8]) -> io::Result<()> {
     let mut out = [0; TEXT_BYTES];
     let opening = file_calls::opened(file, &mut out);
     let n = opening.events;
     let written = opening.written;
     let book = opening.book;
     if opening.number != ACCEPTED {
-        program_io::write_output(&out[..written]);
-        return;
+        return program_io::write_output(rt, &out[..written]);
     }
-    print_events(file, n, book, &mut out);
+    print_events(rt, file, n, book, &mut out)
 }
 
-fn main() {
+fn main(rt: HostRuntime) -> io::Result<()> {
     let mut file = [0; INPUT_BYTES];
-    let input = program_io::read_input(&mut file);
-    if input.failed {
-        return;
-    }
-    let count = input.count;
-    print(&file[..count]);
+    let count = program_io::read_input(&mut rt.stdin(), &mut file)?;
+    print(&rt, &file[..count])
 }

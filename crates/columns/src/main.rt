@@ -3,9 +3,9 @@ ghost use Rattle.rules.specs.Words.{◌≡◌, ◌≤◌, length, cond};
 ghost use Rattle.rules.specs.Columns.{turn_number, turn_written, turn_back_written, turn_printed};
 ghost use Rattle.listing.specs.Laid.{Laid};
 
-use libc::STDERR_FILENO;
 use program_io::INPUT_BYTES;
 use rules::limits::ACCEPTED;
+use std::io;
 use way::Way;
 
 mod way;
@@ -34,33 +34,27 @@ fn printed(back: bool, file: &[u8], out: &mut [u8]) -> usize
     length
 }
 
-fn print(back: bool, file: &[u8])
+fn print(rt: &impl Print, back: bool, file: &[u8]) -> io::Result<()>
     requires { length file.now ≤ 64_617 }
 {
     let mut out = [0; INPUT_BYTES];
     let count = printed(back, file, &mut out);
-    program_io::write_output(&out[..count]);
+    program_io::write_output(rt, &out[..count])
 }
 
-fn run(back: bool) {
+fn run(rt: &HostRuntime, back: bool) -> io::Result<()> {
     let mut file = [0; INPUT_BYTES];
-    let input = program_io::read_input(&mut file);
-    if input.failed {
-        return;
-    }
-    let count = input.count;
-    print(back, &file[..count]);
+    let count = program_io::read_input(&mut rt.stdin(), &mut file)?;
+    print(rt, back, &file[..count])
 }
 
-fn main() {
+fn main(rt: HostRuntime) -> io::Result<()> {
     let mut word = [0; 4];
-    let given = os::arg_count();
-    let length = os::arg(1, &mut word);
+    let given = program_io::word_count(&rt, 3);
+    let length = program_io::word(&rt, 1, &mut word);
     match way::asked(given, &word[..length]) {
-        Way::Forth => run(false),
-        Way::Back => run(true),
-        Way::Unknown => {
-            io::write_all(STDERR_FILENO, b"columns: the only argument is back\n");
-        }
+        Way::Forth => run(&rt, false),
+        Way::Back => run(&rt, true),
+        Way::Unknown => eprintln!(rt; "columns: the only argument is back"),
     }
 }

@@ -6,11 +6,12 @@ ghost use Rattle.rules.specs.Failures.{failures_printed};
 ghost use Rattle.failures.specs.Prints.{Resolved, row_for, Prints};
 
 use answer::ROW_BYTES;
-use libc::STDERR_FILENO;
 use method_columns::sections;
 use program_io::INPUT_BYTES;
 use rules::book::Book;
 use rules::limits::{ACCEPTED, SECTION_PLACES};
+use std::env::Env;
+use std::io;
 
 mod answer;
 mod words;
@@ -22,21 +23,21 @@ const WORDS_MOST: usize = 256;
 const WORD_BYTES: usize = 4_096;
 
 // The sections that the arguments mean, given the keys of the sections held (02, n, 1).
-fn resolve(keys: &[u64], meant: &mut [u8])
+fn resolve<E: Env>(env: &E, keys: &[u64], meant: &mut [u8])
     requires { length keys.now ≤ 128 }
     ensures { Resolved keys.now meant.new }
 {
     let mut word = [0; WORD_BYTES];
     let mut i = 0;
     while i < meant.len() {
-        let length = os::arg(i + 1, &mut word);
+        let length = program_io::word(env, i + 1, &mut word);
         meant[i] = words::meant(keys, &word[..length]);
         i += 1;
     }
 }
 
 // The call on a good book: so many arguments are resolved, the first is the section asked (02, n, 1 and 2).
-fn answered(b: Book, count: usize, out: &mut [u8]) -> usize
+fn answered<E: Env>(env: &E, b: Book, count: usize, out: &mut [u8]) -> usize
     requires { (good b ≡ true) × (0 < count) × (count ≤ 256) × (33 ≤ length out.old) }
     ensures { Prints (row_for b) count out.old out.new result }
 {
@@ -51,13 +52,13 @@ fn answered(b: Book, count: usize, out: &mut [u8]) -> usize
         &mut keys[..held],
     );
     let mut meant = [0; WORDS_MOST];
-    resolve(&keys[..held], &mut meant[..count]);
+    resolve(env, &keys[..held], &mut meant[..count]);
     let asked = meant[0];
     answer::printed(b, asked, &meant[1..count], out)
 }
 
 // The row for a file and so many arguments: the file's refusal, or what its book answers (02, n, 2 and 5; 01, Reading, 1).
-fn printed(file: &[u8], count: usize, out: &mut [u8]) -> usize
+fn printed<E: Env>(env: &E, file: &[u8], count: usize, out: &mut [u8]) -> usize
     requires { (0 < count) × (count ≤ 256) × (33 ≤ length out.old) }
     ensures { Prints (failures_printed file.now) count out.old out.new result }
 {
@@ -67,32 +68,24 @@ fn printed(file: &[u8], count: usize, out: &mut [u8]) -> usize
     if number != ACCEPTED {
         return listing::refusal(number, out, 0);
     }
-    answered(book, count, out)
+    answered(env, book, count, out)
 }
 
-fn run(count: usize)
+fn run(rt: &HostRuntime, count: usize) -> io::Result<()>
     requires { (0 < count) × (count ≤ 256) }
 {
     let mut file = [0; INPUT_BYTES];
-    let input = program_io::read_input(&mut file);
-    if input.failed {
-        return;
-    }
-    let length = input.count;
+    let length = program_io::read_input(&mut rt.stdin(), &mut file)?;
     let mut out = [0; ROW_BYTES];
-    let written = printed(&file[..length], count, &mut out);
-    program_io::write_output(&out[..written]);
+    let written = printed(rt, &file[..length], count, &mut out);
+    program_io::write_output(rt, &out[..written])
 }
 
 // The program's own name is the first word that it is given.
-fn main() {
-    let given = os::arg_count();
+fn main(rt: HostRuntime) -> io::Result<()> {
+    let given = program_io::word_count(&rt, WORDS_MOST + 2);
     if (2 <= given) & (given <= WORDS_MOST + 1) {
-        run(given - 1);
-        return;
+        return run(&rt, given - 1);
     }
-    io::write_all(
-        STDERR_FILENO,
-        b"failures: name the section asked, then up to 255 others\n",
-    );
+    eprintln!(rt; "failures: name the section asked, then up to 255 others")
 }

@@ -1,10 +1,11 @@
 // The input and the output of a program. What the system reads or writes is beyond a contract; how many bytes of a buffer are meant is not.
 #![tactic(auto)]
 
-ghost use Rattle.std.specs.Prelude.{IfOk};
+ghost use Rattle.std.specs.Prelude.{◌≤◌, IfOk};
 ghost use Rattle.io.specs.Counts.{IsPrefixLen};
 
 use rules::limits::{EVENT_BYTES, EVENTS_MOST, SIZES_BYTES};
+use std::env::{Env, FillError};
 use std::io;
 use std::io::{Print, Read};
 
@@ -31,6 +32,28 @@ pub fn read_input<R: Read>(input: &mut R, buffer: &mut [u8]) -> io::Result<usize
         count += more;
     }
     Ok(count)
+}
+
+// How many words the program was given, its own name the first of them, counted no further than `most`.
+pub fn word_count<E: Env>(env: &E, most: usize) -> usize
+    ensures { result ≤ most }
+{
+    for i in 0..most {
+        if matches!(env.arg(i, &mut []), Err(FillError::NotPresent)) {
+            return i;
+        }
+    }
+    most
+}
+
+// Puts a word that the program was given at the start of a buffer: how long it is, 0 where there is none or it is longer than the buffer.
+pub fn word<E: Env>(env: &E, i: usize, buffer: &mut [u8]) -> usize
+    ensures { IsPrefixLen result buffer.new }
+{
+    match env.arg(i, buffer) {
+        Ok(length) => length,
+        Err(_) => 0,
+    }
 }
 
 // Writes all bytes to the output, or fails.

@@ -3,6 +3,8 @@
 ghost use Rattle.rules.specs.Words.{◌≡◌};
 ghost use Rattle.rules.specs.Calendar;
 
+use std::io;
+
 mod rows;
 
 // Twelve numbers of one digit, each with the byte after it, in thirty rows.
@@ -17,7 +19,7 @@ fn printed() -> [u8; TEXT_BYTES]
     text
 }
 
-fn main() {
+fn main(rt: HostRuntime) -> io::Result<()> {
     let text = printed();
-    program_io::write_output(&text);
+    program_io::write_output(&rt, &text)
 }

@@ -1,19 +1,16 @@
 // Reads the event file on standard input and prints its listing (01, Program, 1 and 2 and 3).
 use program_io::INPUT_BYTES;
+use std::io;
 
-fn print(file: &[u8]) {
+fn print(rt: &impl Print, file: &[u8]) -> io::Result<()> {
     let listing = file_listing::printed(file);
     let bytes = listing.bytes;
     let length = listing.length;
-    program_io::write_output(&bytes[..length]);
+    program_io::write_output(rt, &bytes[..length])
 }
 
-fn main() {
+fn main(rt: HostRuntime) -> io::Result<()> {
     let mut file = [0; INPUT_BYTES];
-    let input = program_io::read_input(&mut file);
-    if input.failed {
-        return;
-    }
-    let count = input.count;
-    print(&file[..count]);
+    let count = program_io::read_input(&mut rt.stdin(), &mut file)?;
+    print(&rt, &file[..count])
 }
