@@ -1,5 +1,5 @@
 -- An input that comes in pieces: what is printed as its bytes come, and what is kept of the row that has not ended.
-use Rattle.rules.specs.Words.{ℕ, ◌≤◌, ◌≡◌, cond, eqb, List, [], ◌∷◌, ◌++◌, length, take}
+use Rattle.std.specs.Prelude.{ℕ, ◌≤◌, ◌≡◌, cond, eqb, List, [], ◌∷◌, ◌++◌, length, take}
 use Rattle.listing.specs.Laid.{Laid}
 use Rattle.lastday.specs.Rows.{row_answer}
 

@@ -1,5 +1,6 @@
 -- The fields of a row one after the other, as they are read.
-use Rattle.rules.specs.Words.{ℕ, suc, ◌≤◌, ◌≡◌, true, cond, eqb, List, [], ◌∷◌, length, take, every, is_number}
+use Rattle.std.specs.Prelude.{ℕ, suc, ◌≤◌, ◌≡◌, true, cond, eqb, List, [], ◌∷◌, length, take}
+use Rattle.rules.specs.Words.{every, is_number}
 use Rattle.lastday.specs.Rows.{fields_of, numbers_of}
 
 -- how many bytes stand before the first one that ends a part; all of them where there is none

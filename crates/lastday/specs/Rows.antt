@@ -1,5 +1,6 @@
 -- The rows of an input, and what is printed for each: a year, a month and closed dates, in base ten, parted by one space.
-use Rattle.rules.specs.Words.{ℕ, Bool, cond, ◌and◌, leb, List, [], ◌∷◌, ◌++◌, map, flat_map, length, drop, entry, every, bytes, decimal, is_number, digits_value, parts_of}
+use Rattle.std.specs.Prelude.{ℕ, Bool, cond, leb, List, [], ◌∷◌, ◌++◌, map, length, drop}
+use Rattle.rules.specs.Words.{◌and◌, flat_map, entry, every, bytes, decimal, is_number, digits_value, parts_of}
 use Rattle.rules.specs.declared.dates.{LastDay.LastDay}
 use Rattle.rules.specs.declared.dates.LastDay.TheVariants.{On, Refused}
 use Rattle.rules.specs.Listing.{row, refusal_row}

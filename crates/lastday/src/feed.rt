@@ -1,5 +1,5 @@
 // An input that comes in pieces: rows are answered as they end, and what is kept of the one that has not ended stands at the start of a list.
-ghost use Rattle.rules.specs.Words.{◌≡◌, ◌+◌, ◌*◌, ◌≤◌, length, take};
+ghost use Rattle.std.specs.Prelude.{◌≡◌, ◌+◌, ◌*◌, ◌≤◌, length, take};
 ghost use Rattle.listing.specs.Laid.{Laid};
 ghost use Rattle.lastday.specs.Feeding.{kept_most, byte_text, byte_kept, text_of, kept_after, last_text};
 ghost use Rattle.lastday.specs.Feeding.{Fed as Feeding-as-Fed};

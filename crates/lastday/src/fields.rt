@@ -1,5 +1,5 @@
 // The numbers of a row: its fields in base ten, parted by one space.
-ghost use Rattle.rules.specs.Words.{◌≡◌, ◌≤◌, ◌+◌, length, drop};
+ghost use Rattle.std.specs.Prelude.{◌≡◌, ◌≤◌, ◌+◌, length, drop};
 ghost use Rattle.lastday.specs.Fields.{place_of, NumbersRead};
 
 use listing::text::SPACE;

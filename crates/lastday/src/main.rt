@@ -1,5 +1,7 @@
 // Reads rows on standard input, a year, a month and closed dates each, and prints for each its last trading day or its refusal, or `bad row`
 // (02, e, 2 and 5).
+#![tactic(auto)]
+
 ghost use Rattle.std.specs.Prelude.{◌≡◌, ◌≤◌, length, IfOk};
 ghost use Rattle.lastday.specs.Feeding.{kept_most};
 

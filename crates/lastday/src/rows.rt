@@ -1,5 +1,5 @@
 // What is printed for a row, written into a buffer from a place on. Each function answers the next place.
-ghost use Rattle.rules.specs.Words.{◌+◌, ◌≤◌, length};
+ghost use Rattle.std.specs.Prelude.{◌+◌, ◌≤◌, length};
 ghost use Rattle.listing.specs.Laid.{Laid};
 ghost use Rattle.lastday.specs.Rows.{answer_row, bad_row, row_answer};
 

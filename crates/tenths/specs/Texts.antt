@@ -1,5 +1,6 @@
 -- What is printed, year by year and number by number (02, d, 3).
-use Rattle.rules.specs.Words.{ℕ, ◌+◌, List, map, cond, eqb, decimal}
+use Rattle.std.specs.Prelude.{ℕ, ◌+◌, List, map, cond, eqb}
+use Rattle.rules.specs.Words.{decimal}
 use Rattle.rules.specs.Calendar.{weekday, tenth_of, tenths_of}
 use Rattle.rules.specs.Listing.{row}
 use Rattle.listing.specs.Columns.{field}

@@ -1,6 +1,8 @@
 // Prints the weekdays of the tenths from 2021 to 2050, a year on a row, each worked out by the calendar's rule and none read from the table
 // (02, d, 3).
-ghost use Rattle.rules.specs.Words.{◌≡◌};
+#![tactic(auto)]
+
+ghost use Rattle.std.specs.Prelude.{◌≡◌};
 ghost use Rattle.rules.specs.Calendar;
 
 use std::io;

@@ -1,5 +1,6 @@
 // The rows of the table, written into a buffer from a place on.
-ghost use Rattle.rules.specs.Words.{◌≡◌, ◌≤◌, ◌<◌, ◌+◌, length, over};
+ghost use Rattle.std.specs.Prelude.{◌≡◌, ◌≤◌, ◌<◌, ◌+◌, length};
+ghost use Rattle.rules.specs.Words.{over};
 ghost use Rattle.rules.specs.Calendar.{tenths, table_rows};
 ghost use Rattle.listing.specs.Laid.{Laid};
 ghost use Rattle.tenths.specs.Texts.{year_row, number_end, number_field};
