@@ -1,6 +1,6 @@
 -- The length of a listing, part by part: what stands in a row beside its numbers, and their digits.
-use Rattle.rules.specs.Words.{ℕ, suc, ◌+◌, ◌-◌, min, List, length, total, listed, entry, entry_ℤ, ℤ, pos, decimal, signed_decimal}
-use Rattle.std.specs.Prelude.{◌^◌}
+use Rattle.rules.specs.Words.{total, listed, entry, entry_ℤ, decimal, signed_decimal}
+use Rattle.std.specs.Prelude.{◌^◌, ℕ, suc, ◌+◌, ◌-◌, min, List, length, ℤ, pos}
 use Rattle.rules.specs.declared.{units.Tonnes.Tonnes}
 use Rattle.rules.specs.Units.{tonnes_of}
 use Rattle.rules.specs.Expiry.Passes.{Line}

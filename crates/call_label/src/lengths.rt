@@ -1,5 +1,6 @@
 // How many bytes a number has in base ten, counted by comparison, and the rows of a word and numbers. Nothing is written.
-ghost use Rattle.rules.specs.Words.{◌≡◌, ◌≤◌, length, listed, decimal, signed_decimal};
+ghost use Rattle.std.specs.Prelude.{◌≡◌, ◌≤◌, length};
+ghost use Rattle.rules.specs.Words.{listed, decimal, signed_decimal};
 ghost use Rattle.listing.specs.Columns.{head_row, refused_row};
 ghost use Rattle.call_label.specs.Lengths.{largest_of};
 

@@ -1,5 +1,8 @@
 // The length of a listing before anything is printed, for the label of a box (02, m).
-ghost use Rattle.rules.specs.Words.{◌≡◌, ◌||◌, ◌and◌, leb, ltb, eqb};
+#![tactic(auto)]
+
+ghost use Rattle.std.specs.Prelude.{◌≡◌, ◌||◌, leb, ltb, eqb};
+ghost use Rattle.rules.specs.Words.{◌and◌};
 ghost use Rattle.rules.specs.Label;
 ghost use Rattle.listing.specs.Columns.{lent_of};
 

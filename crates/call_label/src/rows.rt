@@ -1,5 +1,6 @@
 // How many bytes the rows of lines and of sections have: one walk over each, in which the lines are judged too.
-ghost use Rattle.rules.specs.Words.{ℕ, ◌≡◌, ◌≤◌, length, cond, every, counted};
+ghost use Rattle.std.specs.Prelude.{ℕ, ◌≡◌, ◌≤◌, length, cond};
+ghost use Rattle.rules.specs.Words.{every, counted};
 ghost use Rattle.rules.specs.Label.{row_fit};
 ghost use Rattle.call_label.specs.Lengths.{line_at, line_length, lines_length, section_length, sections_length};
 
