@@ -14,6 +14,7 @@ use rules::limits::{
 use rules::units::Lots;
 
 // The number of a notice call on a good book (01, Notice, 1).
+#[tactic(auto, unfolding(rules::specs::Calls::first, rules::specs::Calls::notice_number))]
 pub fn refusal(b: Book, section: u8, elevator: u8, lots: u32) -> u8
     requires { good b ≡ true }
     ensures { result ≡ Rules.notice_number b section elevator lots }

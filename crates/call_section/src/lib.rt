@@ -14,6 +14,7 @@ use rules::limits::{
 use rules::units::{Kopecks, Lots};
 
 // The number of a section call on a good book (01, Section, 1).
+#[tactic(auto, unfolding(rules::specs::Calls::first, rules::specs::Calls::section_number))]
 pub fn refusal(b: Book, settlement: u8, code: [u8; 7]) -> u8
     requires { good b ≡ true }
     ensures { result ≡ Rules.section_number b settlement code }
