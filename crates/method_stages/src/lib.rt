@@ -1,4 +1,6 @@
 // Step 6 pass by pass: what both stages of a pass form, kept so that it can be shown.
+#![tactic(auto)]
+
 use method_passes::pairs::Pairs;
 use method_passes::register::Register;
 use rules::limits::ELEVATORS;

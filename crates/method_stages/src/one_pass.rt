@@ -1,5 +1,5 @@
 // One pass by itself: stage one, then stage two.
-ghost use Rattle.rules.specs.Words.{◌≡◌, ◌≤◌, length};
+ghost use Rattle.std.specs.Prelude.{◌≡◌, ◌≤◌, length};
 ghost use Rattle.rules.specs.Expiry.Passes;
 ghost use Rattle.method_laws.specs.Columns.{by_key};
 ghost use Rattle.method_passes.specs.Formed.{pairs_in, lines_in, pairs_from, lines_from, pass_pairs, pass_lines, Known, Sold};
