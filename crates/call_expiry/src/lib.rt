@@ -1,5 +1,7 @@
 // The expiry: which obligations lapse, and who sells wheat to whom at which elevator.
-ghost use Rattle.rules.specs.Words.{◌≡◌, true, ◌||◌, ltb};
+#![tactic(auto)]
+
+ghost use Rattle.std.specs.Prelude.{◌≡◌, true, ◌||◌, ltb};
 ghost use Rattle.rules.specs.Book.{good};
 ghost use Rattle.rules.specs.Calls.{first};
 ghost use Rattle.rules.specs.Expiry.Call;
