@@ -1,5 +1,6 @@
 -- Which way the program is asked to go, by how many words it was given, its name first, and the second one.
-use Rattle.rules.specs.Words.{ℕ, cond, ◌and◌, ltb, eqb, List, same, bytes}
+use Rattle.std.specs.Prelude.{ℕ, cond, ltb, eqb, List}
+use Rattle.rules.specs.Words.{◌and◌, same, bytes}
 use Rattle.columns.specs.declared.way.Way.{Way}
 use Rattle.columns.specs.declared.way.Way.TheVariants.{Forth, Back, Unknown}
 

@@ -1,5 +1,7 @@
 // Turns the event file on standard input by column and prints it; with the argument `back` it turns a file by column back (02, l, 3 and 4).
-ghost use Rattle.rules.specs.Words.{◌≡◌, ◌≤◌, length, cond};
+#![tactic(auto)]
+
+ghost use Rattle.std.specs.Prelude.{◌≡◌, ◌≤◌, length, cond};
 ghost use Rattle.rules.specs.Columns.{turn_number, turn_written, turn_back_written, turn_printed};
 ghost use Rattle.listing.specs.Laid.{Laid};
 

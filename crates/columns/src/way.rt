@@ -1,5 +1,6 @@
 // Which way the program is asked to go.
-ghost use Rattle.rules.specs.Words.{◌≡◌, same, bytes};
+ghost use Rattle.std.specs.Prelude.{◌≡◌};
+ghost use Rattle.rules.specs.Words.{same, bytes};
 ghost use Rattle.columns.specs.Way.{way_asked};
 
 // A file is turned, or one by column is turned back; or the arguments ask for neither.
