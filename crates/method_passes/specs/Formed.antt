@@ -1,5 +1,6 @@
 -- Pairs and lines as the code has them, in arrays that it fills from the start; the stages of a pass with turns enough; what they ask of their columns.
-use Rattle.rules.specs.Words.{ℕ, ◌≡◌, ◌+◌, ◌≤◌, ◌<◌, min, Bool, List, length, set, listed, entry}
+use Rattle.std.specs.Prelude.{ℕ, ◌≡◌, ◌+◌, ◌≤◌, ◌<◌, min, Bool, List, length, set}
+use Rattle.rules.specs.Words.{listed, entry}
 use Rattle.rules.specs.Book.{elevators}
 use Rattle.rules.specs.Expiry.Passes.{Pair, Line, pair_of, with_lots, offers, elevator_lots, fullest_pair, fullest_notice, stage_one, stage_two}
 use Rattle.method_passes.specs.declared.{pairs.Pairs.Pairs, register.Register.Register, stage_two.Choice.Choice}

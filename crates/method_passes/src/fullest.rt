@@ -1,5 +1,5 @@
 // The place of most lots, among equal ones by the paper's keys. `keys` tell which of two section codes is lower.
-ghost use Rattle.rules.specs.Words.{◌≡◌, cond, ◌&&◌, ◌||◌, ltb, eqb, length};
+ghost use Rattle.std.specs.Prelude.{◌≡◌, cond, ◌&&◌, ◌||◌, ltb, eqb, length};
 ghost use Rattle.rules.specs.Expiry.Passes;
 ghost use Rattle.method_laws.specs.Columns.{by_key};
 ghost use Rattle.method_passes.specs.Formed.{pairs_in, Known, Sold};

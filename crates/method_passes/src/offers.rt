@@ -1,5 +1,6 @@
 // What is drawn of the notices at an elevator.
-ghost use Rattle.rules.specs.Words.{◌≡◌, ◌<◌, length, replicate, entry};
+ghost use Rattle.std.specs.Prelude.{◌≡◌, ◌<◌, length, replicate};
+ghost use Rattle.rules.specs.Words.{entry};
 ghost use Rattle.rules.specs.Expiry.Passes;
 ghost use Rattle.method_passes.specs.Formed.{Drawn};
 

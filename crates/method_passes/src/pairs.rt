@@ -1,5 +1,5 @@
 // The pairs of a pass, from the first one formed.
-ghost use Rattle.rules.specs.Words.{◌≡◌, ◌≤◌, ◌<◌, [], ◌∷◌, ◌++◌};
+ghost use Rattle.std.specs.Prelude.{◌≡◌, ◌≤◌, ◌<◌, [], ◌∷◌, ◌++◌};
 ghost use Rattle.method_passes.specs.Formed.{pairs_in, pair_left};
 
 use rules::limits::PAIR_PLACES;

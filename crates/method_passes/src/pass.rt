@@ -1,5 +1,5 @@
 // A pass: both stages.
-ghost use Rattle.rules.specs.Words.{◌≡◌, ◌+◌, ◌≤◌, ◌++◌, length};
+ghost use Rattle.std.specs.Prelude.{◌≡◌, ◌+◌, ◌≤◌, ◌++◌, length};
 ghost use Rattle.method_laws.specs.Columns.{by_key};
 ghost use Rattle.method_passes.specs.Formed.{lines_in, pass_pairs, pass_lines, Sold};
 

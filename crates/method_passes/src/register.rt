@@ -1,5 +1,5 @@
 // The lines of an expiry, from the first one formed.
-ghost use Rattle.rules.specs.Words.{◌≡◌, ◌<◌, [], ◌∷◌, ◌++◌};
+ghost use Rattle.std.specs.Prelude.{◌≡◌, ◌<◌, [], ◌∷◌, ◌++◌};
 ghost use Rattle.method_passes.specs.Formed.{lines_in};
 
 use rules::limits::REGISTER_PLACES;

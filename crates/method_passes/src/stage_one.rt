@@ -1,5 +1,6 @@
 // Stage one: pairs of buyers and elevators.
-ghost use Rattle.rules.specs.Words.{◌≡◌, ◌≤◌, length, entry};
+ghost use Rattle.std.specs.Prelude.{◌≡◌, ◌≤◌, length};
+ghost use Rattle.rules.specs.Words.{entry};
 ghost use Rattle.method_laws.specs.Columns.{by_key};
 ghost use Rattle.method_passes.specs.Formed.{pairs_in, pairs_from};
 

@@ -1,4 +1,3 @@
--- The loop's invariant: the lines kept of the first k are in their places.
 use Rattle.numbers.proofs.Words.{rules}
 use Rattle.method_passes.proofs.Arrays.{Places}
 use Rattle.method_removal.proofs.Keeping.{kept_none, kept_next}

@@ -1,4 +1,3 @@
--- The loop's invariant: what is gone of the first k lines is in its places.
 use Rattle.numbers.proofs.Words.{arith, ap, ◌∙◌, Bool, cond, entry}
 use Rattle.numbers.proofs.Filled.{filled_none, filled_next}
 use Rattle.method_removal.proofs.removed_lots.Goals as goal

@@ -1,4 +1,3 @@
--- The loop's invariant: the best of the first i entries, and the scan of those left, find the largest of all. So in each scan.
 use Rattle.numbers.proofs.Words.{arith, refl}
 use Rattle.method_laws.specs.Columns.{by_key}
 use Rattle.method_passes.proofs.Scan.{scan_start, scan_next, scan_end}
@@ -9,12 +8,10 @@ loop-i-init c = scan_start (by_key c.args.keys.now) c.args.lots.now
 
 pub loop-i-preserved : goal.loop-i-preserved
 loop-i-preserved c =
-    let at = c in
-    let a = at.args in
-    scan_next (by_key a.keys.now) a.lots.now at.loop-i.best at.loop-i.i _ _ _ _ (omega arith) at.loop-i.invariant refl refl refl c.leader-best.ensures
+    let a = c.args in
+    scan_next (by_key a.keys.now) a.lots.now c.loop-i.best c.loop-i.i _ _ _ _ (omega arith) c.loop-i.invariant refl refl refl c.leader-best.ensures
 
 pub returns : goal.returns
 returns c =
-    let at = c in
-    let a = at.args in
-    scan_end (by_key a.keys.now) a.lots.now at.loop-i.best at.loop-i.i (omega arith) at.loop-i.invariant
+    let a = c.args in
+    scan_end (by_key a.keys.now) a.lots.now c.loop-i.best c.loop-i.i (omega arith) c.loop-i.invariant

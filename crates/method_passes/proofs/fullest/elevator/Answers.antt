@@ -7,8 +7,7 @@ loop-i-init c = scan_start ltb c.args.lots.now
 
 pub loop-i-preserved : goal.loop-i-preserved
 loop-i-preserved c =
-    let at = c in
-    scan_next ltb (at.args.lots.now) at.loop-i.best at.loop-i.i _ _ _ _ c.loop-i-test.true at.loop-i.invariant refl refl refl c.leader-best.ensures
+    scan_next ltb c.args.lots.now c.loop-i.best c.loop-i.i _ _ _ _ c.loop-i-test.true c.loop-i.invariant refl refl refl c.leader-best.ensures
 
 pub returns : goal.returns
 returns c = scan_end ltb c.args.lots.now c.loop-i.best c.loop-i.i (omega arith) c.loop-i.invariant

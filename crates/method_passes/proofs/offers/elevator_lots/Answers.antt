@@ -1,4 +1,3 @@
--- The loop's invariant: the list has the sums of the first k notices.
 use Rattle.numbers.proofs.Words.{◌<◌, ◌≤◌, arith, entry}
 use Rattle.method_passes.proofs.Offered.{summed_none, summed_fits, summed_next, summed_all}
 use Rattle.method_passes.proofs.offers.elevator_lots.Goals as goal

@@ -1,4 +1,3 @@
--- The loop's invariant: the pairs formed so far, and those that stage one forms of what is left, are all the pairs.
 use Rattle.numbers.proofs.Words.{arith, refl}
 use Rattle.method_laws.specs.Columns.{by_key}
 use Rattle.method_passes.proofs.Arrays.{one_more_pair}

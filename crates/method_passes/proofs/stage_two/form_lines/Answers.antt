@@ -1,4 +1,3 @@
--- The loop's invariant: the lines formed so far, and those that stage two forms of what is left, are all the lines.
 use Rattle.numbers.proofs.Words.{append-nil, length-append, ◌<◌, ◌≤◌, arith, refl, sym, ap, ◌∙◌, List, length, ◌++◌}
 use Rattle.rules.specs.Expiry.Passes.{Line}
 use Rattle.method_laws.specs.Columns.{by_key}
