@@ -1,9 +1,9 @@
 // How patterns end for a section.
-ghost use Rattle.rules.specs.Words.{◌≡◌, ◌+◌, ◌≤◌, cond};
+ghost use Rattle.std.specs.Prelude.{◌≡◌, ◌+◌, ◌≤◌, cond};
 ghost use Rattle.method_patterns.specs.Endings.{all_of, some_of, none_of};
 
 // In how many patterns a section is delivered in full, in part, not at all.
-#[derive(Drop)]
+#[derive(Clone, Copy)]
 pub struct Counts {
     pub full: u32,
     pub part: u32,
