@@ -1,5 +1,6 @@
 -- How many patterns end in each way, by what they deliver of the lots that a section has.
-use Rattle.rules.specs.Words.{ℕ, ◌≡◌, Bool, not, ◌||◌, eqb, ◌and◌, many}
+use Rattle.std.specs.Prelude.{ℕ, ◌≡◌, Bool, not, ◌||◌, eqb}
+use Rattle.rules.specs.Words.{◌and◌, many}
 use Rattle.method_patterns.specs.declared.endings.{Counts.Counts}
 
 -- in full, not at all, in part (02, n, 2 and 3)

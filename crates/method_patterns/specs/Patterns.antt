@@ -1,5 +1,6 @@
 -- Patterns by number, and the columns of the book behind each.
-use Rattle.rules.specs.Words.{ℕ, ◌/◌, ◌%◌, ◌<◌, ◌≡◌, Bool, true, false, cond, List, [], ◌∷◌, map, eqb, length, set, ℤ, entry}
+use Rattle.std.specs.Prelude.{ℕ, ◌/◌, ◌%◌, ◌<◌, ◌≡◌, Bool, true, false, cond, List, [], ◌∷◌, map, eqb, length, set, ℤ}
+use Rattle.rules.specs.Words.{entry}
 use Rattle.rules.specs.declared.book.{Book.Book}
 use Rattle.rules.specs.Book.{good, held_sections, filed_notices}
 use Rattle.rules.specs.Calls.{after_condition}

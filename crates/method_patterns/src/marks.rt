@@ -1,5 +1,5 @@
 // What fails of each section under a pattern.
-ghost use Rattle.rules.specs.Words.{◌≡◌, cond, length};
+ghost use Rattle.std.specs.Prelude.{◌≡◌, cond, length};
 ghost use Rattle.method_laws.specs.Columns.{Below};
 ghost use Rattle.method_patterns.specs.Patterns.{fails_under};
 

@@ -1,5 +1,5 @@
 // One pattern: what a section delivers under it.
-ghost use Rattle.rules.specs.Words.{◌≡◌, ◌≤◌, ◌<◌, ◌-◌, length};
+ghost use Rattle.std.specs.Prelude.{◌≡◌, ◌≤◌, ◌<◌, ◌-◌, length};
 ghost use Rattle.rules.specs.declared.book.Book.{Book};
 ghost use Rattle.rules.specs.Failures.{delivered_in};
 ghost use Rattle.method_patterns.specs.Patterns.{book_under, Stands, Standing, Marks, Named};

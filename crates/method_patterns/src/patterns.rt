@@ -1,6 +1,6 @@
 // All patterns, one after the other.
-ghost use Rattle.std.specs.Prelude.{◌^◌};
-ghost use Rattle.rules.specs.Words.{ℕ, ◌≡◌, ◌≤◌, ◌<◌, length, entry, listed};
+ghost use Rattle.std.specs.Prelude.{◌^◌, ℕ, ◌≡◌, ◌≤◌, ◌<◌, length};
+ghost use Rattle.rules.specs.Words.{entry, listed};
 ghost use Rattle.rules.specs.declared.book.Book.{Book};
 ghost use Rattle.rules.specs.Failures.{delivered_in};
 ghost use Rattle.method_patterns.specs.Patterns.{book_under, Stands, Marks, Named};

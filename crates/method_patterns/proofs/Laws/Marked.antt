@@ -1,12 +1,12 @@
 -- A section marked: the columns of the book stay, and of what fails one entry changes; so under a pattern.
-use Rattle.numbers.proofs.Words.{ℕ, suc, ◌/◌, ◌<◌, arith, ◌≡◌, refl, sym, ap, ap₂, ◌∙◌, Bool, true, false, not, cond, ◌||◌, List, [], ◌∷◌, map, eqb, lt-leb, length, get_or, set, length-set, length-map, take-set-lt, get_or-take, get_or-set_same, get_or-set_other, map-set_same, get_or-map, ℤ, ◌and◌, listed, entry}
+use Rattle.numbers.proofs.Words.{ℕ, suc, ◌/◌, ◌<◌, arith, ◌≡◌, refl, sym, ap, ap₂, ◌∙◌, Bool, true, false, cond, List, [], ◌∷◌, map, lt-leb, length, get_or, set, length-set, length-map, take-set-lt, get_or-take, get_or-set_same, get_or-set_other, map-set_same, get_or-map, ℤ, listed, entry}
 use Rattle.rules.specs.declared.book.{Book.Book, Section.Section}
-use Rattle.numbers.proofs.Ranges.{listed_same, listed-length, listed_at, listed-set, listed_read}
-use Rattle.rules.specs.Book.{good, held_sections, filed_notices, section_at, section_of, section_of_noughts, position_of}
+use Rattle.numbers.proofs.Ranges.{listed_same, listed-length, listed_at, listed-set}
+use Rattle.rules.specs.Book.{good, held_sections, filed_notices, section_at, section_of, section_of_noughts}
 use Rattle.rules.specs.Calls.{first, marked, condition_number, after_condition}
-use Rattle.rules.specs.Expiry.{size, is_short}
+use Rattle.rules.specs.Expiry.{size}
 use Rattle.rules.specs.Expiry.Failing.{noticed, fails, failing}
-use Rattle.book_laws.proofs.Good.{Good, facts}
+use Rattle.book_laws.proofs.Good.{facts}
 use Rattle.book_laws.proofs.Held.{held_length}
 use Rattle.book_laws.proofs.Kept.Condition.{condition_kept}
 use Rattle.method_delivery.specs.Lent.{ColumnsOf}
@@ -142,7 +142,7 @@ pub under_stands : {persons codes : List ℕ} {positions : List ℤ} {keys selli
     → Stands (book_under b named p) persons codes positions keys selling stands stock (fails_under own still failed named p)
 unfolding book_under fails_under
 under_stands b [] p is marks = is
-under_stands b (i ∷ named) p is marks =
+under_stands {failed = failed} {own = own} {still = still} b (i ∷ named) p is marks =
     let held = many_failing is in
     let known : i < b.held = omega (arith, marks.known 0 (omega arith), held) in
-    under_stands _ named (p / 2) (next_stands b is.good_book marks.unexpired i known (met_in p) is marks) (next_marks b is.good_book marks.unexpired i known (met_in p) is marks)
+    under_stands {failed = fails_marked own still failed i (met_in p)} _ named (p / 2) (next_stands b is.good_book marks.unexpired i known (met_in p) is marks) (next_marks b is.good_book marks.unexpired i known (met_in p) is marks)
