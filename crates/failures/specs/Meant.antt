@@ -1,5 +1,6 @@
 -- The section that a word means, on the keys of the sections held.
-use Rattle.rules.specs.Words.{ℕ, cond, List, ltb, eqb, length, get_or, ◌and◌, passing, counted, entry, is_number, digits_value}
+use Rattle.std.specs.Prelude.{ℕ, cond, List, ltb, eqb, length, get_or}
+use Rattle.rules.specs.Words.{◌and◌, passing, counted, entry, is_number, digits_value}
 use Rattle.rules.specs.Failures.{no_section}
 
 -- the places from one on at which a key stands; and the first of all

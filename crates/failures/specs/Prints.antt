@@ -1,5 +1,5 @@
 -- What is printed of words that the system hands out one by one: no contract names them, so each says that there are some.
-use Rattle.rules.specs.Words.{ℕ, suc, ◌≡◌, true, List, map, length}
+use Rattle.std.specs.Prelude.{ℕ, suc, ◌≡◌, true, List, map, length}
 use Rattle.rules.specs.declared.book.Book.{Book}
 use Rattle.rules.specs.Book.{good, held_sections}
 use Rattle.rules.specs.Failures.{failures_answer, section_meant, answer_row}

@@ -1,5 +1,5 @@
 // What is printed of a call.
-ghost use Rattle.rules.specs.Words.{◌≤◌, length};
+ghost use Rattle.std.specs.Prelude.{◌≤◌, length};
 ghost use Rattle.rules.specs.Failures.{failures_answer, answer_row};
 ghost use Rattle.listing.specs.Laid.{Laid};
 

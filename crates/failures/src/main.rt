@@ -1,6 +1,6 @@
 // Reads the event file on standard input and prints in how many patterns of failures the section asked is delivered in full, in part and not at all; the arguments are that section
 // and the sections named (02, n, 1 and 2).
-ghost use Rattle.rules.specs.Words.{◌≡◌, ◌≤◌, ◌<◌, true, length};
+ghost use Rattle.std.specs.Prelude.{◌≡◌, ◌≤◌, ◌<◌, true, length};
 ghost use Rattle.rules.specs.Book.{good};
 ghost use Rattle.rules.specs.Failures.{failures_printed};
 ghost use Rattle.failures.specs.Prints.{Resolved, row_for, Prints};

@@ -1,6 +1,6 @@
 // The section that a word of the desk means, given the keys of the sections held: a key is the number of a section code.
 ghost use Rattle.numbers.specs.Bytes.{big_endian};
-ghost use Rattle.rules.specs.Words.{◌≡◌, ◌≤◌, true, length};
+ghost use Rattle.std.specs.Prelude.{◌≡◌, ◌≤◌, true, length};
 ghost use Rattle.rules.specs.declared.book.Book.{Book};
 ghost use Rattle.rules.specs.Book.{good, held_sections};
 ghost use Rattle.rules.specs.Failures.{section_meant};

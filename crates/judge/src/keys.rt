@@ -1,5 +1,6 @@
 // Columns of keys, a number for each section or notice: no two are alike.
-ghost use Rattle.rules.specs.Words.{◌≡◌, eqb, drop, some, apart};
+ghost use Rattle.std.specs.Prelude.{◌≡◌, eqb, drop};
+ghost use Rattle.rules.specs.Words.{some, apart};
 
 // Whether a number is among those from a place on.
 fn among(numbers: &[u64], number: u64, from: usize) -> bool

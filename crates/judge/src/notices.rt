@@ -1,5 +1,5 @@
 // The notices.
-ghost use Rattle.rules.specs.Words.{◌≡◌, ◌+◌, ◌*◌, ◌≤◌};
+ghost use Rattle.std.specs.Prelude.{◌≡◌, ◌+◌, ◌*◌, ◌≤◌};
 ghost use Rattle.rules.specs.Book.{elevators, filed_notices, notice_good, notice_blank, notices_good};
 ghost use Rattle.rules.specs.Calls.{notice_filed};
 

@@ -1,5 +1,5 @@
 // The sections.
-ghost use Rattle.rules.specs.Words.{◌≡◌, ◌≤◌};
+ghost use Rattle.std.specs.Prelude.{◌≡◌, ◌≤◌};
 ghost use Rattle.rules.specs.Book.{held_sections, section_good, section_blank, sections_good};
 ghost use Rattle.rules.specs.Calls.{section_code_held};
 

@@ -1,5 +1,6 @@
 // The terms, the counts and the last session.
-ghost use Rattle.rules.specs.Words.{◌≡◌, ◌≤◌, leb, between, ◌and◌};
+ghost use Rattle.std.specs.Prelude.{◌≡◌, ◌≤◌, leb};
+ghost use Rattle.rules.specs.Words.{between, ◌and◌};
 ghost use Rattle.rules.specs.Book.{section_places, notice_places, lot_good, steps_good, factor_good, last_good};
 ghost use Rattle.rules.specs.Value.{factor, value_of};
 
