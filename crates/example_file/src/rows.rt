@@ -1,129 +1,110 @@
 // Rows of the program's output.
-use libc::STDOUT_FILENO;
 use rules::events::{Event, Found};
-
-pub fn end() {
-    io::write_all(STDOUT_FILENO, b"\n");
-}
-
-// A field after the first one of its row.
-fn field(n: u64) {
-    io::write_all(STDOUT_FILENO, b" ");
-    io::print_decimal(STDOUT_FILENO, n);
-}
-
-fn mark(marked: bool) {
-    if marked {
-        io::write_all(STDOUT_FILENO, b" yes");
-    } else {
-        io::write_all(STDOUT_FILENO, b" no");
-    }
-}
+use std::io;
+use std::io::Print;
 
 // What a write answered.
-pub fn answer(number: u8) {
-    io::write_all(STDOUT_FILENO, b"answer");
-    field(number as u64);
-    end();
+pub fn answer(rt: &impl Print, number: u8) -> io::Result<()> {
+    println!(rt; "answer {number}")
 }
 
-fn byte(b: u8) {
-    io::print_hex(STDOUT_FILENO, b as u64, 2);
-}
-
-pub fn hex(bytes: &[u8]) {
+pub fn hex(rt: &impl Print, bytes: &[u8]) -> io::Result<()> {
     let mut i = 0;
     while i < bytes.len() {
-        byte(bytes[i]);
+        let byte = bytes[i];
+        print!(rt; "{byte:02x}")?;
         i += 1;
     }
-    end();
+    rt.write_all(b"\n")
 }
 
-fn section(settlement: u8, seller: bool, code: &[u8], participant: u32) {
-    io::write_all(STDOUT_FILENO, b"section");
-    field(settlement as u64);
-    mark(seller);
-    io::write_all(STDOUT_FILENO, b" ");
-    io::write_all(STDOUT_FILENO, code);
-    field(participant as u64);
+fn mark(rt: &impl Print, marked: bool) -> io::Result<()> {
+    if marked {
+        rt.write_all(b" yes")
+    } else {
+        rt.write_all(b" no")
+    }
 }
 
-fn trade(buyer: u8, seller: u8, price: u32, lots: u32) {
-    io::write_all(STDOUT_FILENO, b"trade");
-    field(buyer as u64);
-    field(seller as u64);
-    field(price as u64);
-    field(lots as u64);
+fn section(
+    rt: &impl Print,
+    settlement: u8,
+    seller: bool,
+    code: &[u8],
+    participant: u32,
+) -> io::Result<()> {
+    print!(rt; "section {settlement}")?;
+    mark(rt, seller)?;
+    rt.write_all(b" ")?;
+    rt.write_all(code)?;
+    print!(rt; " {participant}")
 }
 
-fn session(price: u32) {
-    io::write_all(STDOUT_FILENO, b"session");
-    field(price as u64);
+fn trade(rt: &impl Print, buyer: u8, seller: u8, price: u32, lots: u32) -> io::Result<()> {
+    print!(rt; "trade {buyer} {seller} {price} {lots}")
 }
 
-fn condition(section: u8, met: bool) {
-    io::write_all(STDOUT_FILENO, b"condition");
-    field(section as u64);
-    mark(met);
+fn session(rt: &impl Print, price: u32) -> io::Result<()> {
+    print!(rt; "session {price}")
 }
 
-fn notice(section: u8, elevator: u8, lots: u32) {
-    io::write_all(STDOUT_FILENO, b"notice");
-    field(section as u64);
-    field(elevator as u64);
-    field(lots as u64);
+fn condition(rt: &impl Print, section: u8, met: bool) -> io::Result<()> {
+    print!(rt; "condition {section}")?;
+    mark(rt, met)
 }
 
-fn expiry() {
-    io::write_all(STDOUT_FILENO, b"expiry");
+fn notice(rt: &impl Print, section: u8, elevator: u8, lots: u32) -> io::Result<()> {
+    print!(rt; "notice {section} {elevator} {lots}")
 }
 
-fn event(event: Event, code: [u8; 7]) {
+fn expiry(rt: &impl Print) -> io::Result<()> {
+    rt.write_all(b"expiry")
+}
+
+fn event(rt: &impl Print, event: Event, code: [u8; 7]) -> io::Result<()> {
     match event {
         Event::Section {
             settlement,
             seller,
             participant,
-        } => section(settlement, seller, &code, participant),
+        } => section(rt, settlement, seller, &code, participant)?,
         Event::Trade {
             buyer,
             seller,
             price,
             lots,
-        } => trade(buyer, seller, price, lots),
-        Event::Session { price } => session(price),
-        Event::Condition { section, met } => condition(section, met),
+        } => trade(rt, buyer, seller, price, lots)?,
+        Event::Session { price } => session(rt, price)?,
+        Event::Condition { section, met } => condition(rt, section, met)?,
         Event::Notice {
             section,
             elevator,
             lots,
-        } => notice(section, elevator, lots),
-        Event::Expiry => expiry(),
+        } => notice(rt, section, elevator, lots)?,
+        Event::Expiry => expiry(rt)?,
     }
-    end();
+    rt.write_all(b"\n")
 }
 
-fn refused(found: Found) {
+fn refused(rt: &impl Print, found: Found) -> io::Result<()> {
     if let Found::Refused(number) = found {
-        io::write_all(STDOUT_FILENO, b"refused");
-        field(number as u64);
-        end();
+        return println!(rt; "refused {number}");
     }
+    Ok(())
 }
 
 // Each event by the number that the last read answered, up to a refusal.
-pub fn events(file: &[u8]) {
+pub fn events(rt: &impl Print, file: &[u8]) -> io::Result<()> {
     let mut i = 0;
     while i < 3_801 {
         let answer = file_reader::event(file, i);
         let found = answer.found;
         let Found::Values(values) = found else {
-            refused(found);
-            return;
+            return refused(rt, found);
         };
         let code = answer.code;
-        event(values, code);
+        event(rt, values, code)?;
         i = answer.next;
     }
+    Ok(())
 }
