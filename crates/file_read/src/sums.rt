@@ -1,5 +1,6 @@
 // The margin sums handed out.
-ghost use Rattle.rules.specs.Words.{◌≡◌, ◌≤◌, length, listed, entry_ℤ, over};
+ghost use Rattle.std.specs.Prelude.{◌≡◌, ◌≤◌, length};
+ghost use Rattle.rules.specs.Words.{listed, entry_ℤ, over};
 
 // The sums of the sections held go over the first entries of a list; later ones remain (01, Reading, 5).
 pub fn put(paid: &[i64], held: usize, sums: &mut [i64])
