@@ -1,4 +1,3 @@
--- The loop's invariant: what is left of the sections named, by what is left of the pattern's digits, on the list now, gives what was asked of the list at first.
 use Rattle.numbers.proofs.Words.{ℕ, ◌+◌, ◌/◌, ◌≤◌, ◌<◌, ◌≡◌, sym, ap, ◌∙◌, List, length, drop, drop_of_length-le, set, length-set, entry}
 use Rattle.numbers.proofs.Lists.{has, from_here}
 use Rattle.method_patterns.specs.Patterns.{met_in, fails_marked, fails_under}

@@ -1,4 +1,3 @@
--- The loop's invariant: the patterns so far are counted, whatever book stands behind the columns.
 use Rattle.numbers.proofs.Words.{le_antisymm, arith, sym, subst, ◌∙◌}
 use Rattle.method_patterns.specs.Endings.{Counted}
 use Rattle.method_patterns.proofs.Laws.Counting.{counted_none, counted_next, counted_all, counted_most}
