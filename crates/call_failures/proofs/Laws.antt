@@ -1,10 +1,10 @@
 -- The number and the answer of the call, as its code comes by them.
-use Rattle.numbers.proofs.Words.{ℕ, zero, suc, ◌/◌, ◌^◌, arith, ◌≡◌, refl, sym, ap, ap₂, ◌∙◌, Bool, true, false, not, cond, ◌||◌, List, [], ◌∷◌, leb, ltb, leb-false, eqb, length, some, passing, apart, many, entry}
-use Rattle.rules.specs.declared.book.{Book.Book, FailuresAnswer.FailuresAnswer}
+use Rattle.numbers.proofs.Words.{ℕ, zero, suc, ◌/◌, ◌^◌, arith, ◌≡◌, refl, sym, ap, ◌∙◌, Bool, true, false, not, cond, ◌||◌, List, [], ◌∷◌, leb, ltb, leb-false, eqb, length, some, passing, apart, many}
+use Rattle.rules.specs.declared.book.{Book.Book}
 use Rattle.numbers.proofs.Counts.{many-same}
 use Rattle.numbers.proofs.Tests.{or_left, or_right}
 use Rattle.rules.specs.Book.{good, section_at}
-use Rattle.rules.specs.Calls.{Refusal, ◌if◌, first, count, marked, unknown, after_condition}
+use Rattle.rules.specs.Calls.{Refusal, ◌if◌, first, count, marked, after_condition}
 use Rattle.rules.specs.Expiry.{size}
 use Rattle.rules.specs.Failures.{patterns, delivered_in, in_full, in_part, not_at_all, failures_number, failures_answer}
 use Rattle.book_laws.proofs.Answers.{says, says_none, kept, written}

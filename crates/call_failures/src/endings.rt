@@ -1,6 +1,5 @@
 // The columns of the book, filled once, and all patterns over them.
-ghost use Rattle.std.specs.Prelude.{◌^◌};
-ghost use Rattle.rules.specs.Words.{ℕ, ◌≡◌, ◌≤◌, ◌<◌, true, false, length};
+ghost use Rattle.std.specs.Prelude.{◌^◌, ℕ, ◌≡◌, ◌≤◌, ◌<◌, true, false, length};
 ghost use Rattle.rules.specs.Book.{good, section_at, held_sections};
 ghost use Rattle.rules.specs.Expiry.{size};
 ghost use Rattle.rules.specs.Failures.{delivered_in};

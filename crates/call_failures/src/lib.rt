@@ -1,5 +1,7 @@
 // Which failures reach a grower: a section's endings over all patterns of conditions met and not met (02, n).
-ghost use Rattle.rules.specs.Words.{◌≡◌, true, cond};
+#![tactic(auto)]
+
+ghost use Rattle.std.specs.Prelude.{◌≡◌, true, cond};
 ghost use Rattle.rules.specs.Book.{good};
 ghost use Rattle.rules.specs.Failures as Rules;
 

@@ -1,5 +1,6 @@
 // The sections that are named.
-ghost use Rattle.rules.specs.Words.{◌≡◌, not, ◌||◌, leb, ltb, eqb, length, some, apart};
+ghost use Rattle.std.specs.Prelude.{◌≡◌, not, ◌||◌, leb, ltb, eqb, length};
+ghost use Rattle.rules.specs.Words.{some, apart};
 
 use judge::keys;
 use rules::limits::NAMED_MOST;
