@@ -1,5 +1,8 @@
 // From a file's bytes to what the program prints of it.
-ghost use Rattle.rules.specs.Words.{◌≡◌, length, replicate, over};
+#![tactic(auto)]
+
+ghost use Rattle.std.specs.Prelude.{◌≡◌, length, replicate};
+ghost use Rattle.rules.specs.Words.{over};
 ghost use Rattle.rules.specs.Listing as Program;
 ghost use Rattle.listing.specs.Columns.{refused_row};
 
