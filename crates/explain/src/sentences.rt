@@ -3,6 +3,8 @@ use explain_row::{amounts, row};
 use list_leaves::{changed, entries};
 use rules::book::{Book, Notice, Section};
 use rules::limits::{NOTICE_PLACES, REGISTER_PLACES, SECTION_PLACES};
+use std::io;
+use std::io::Print;
 use value::signed;
 
 // What the read of an accepted file hands out: lines formed and kept, the expired book, the register and each section's lots and margins (01, Reading, 5).
@@ -22,15 +24,16 @@ pub struct Ended {
 }
 
 // The first sentence: margins sum to zero (00, 3).
-fn margins(counts: &[u64]) -> bool {
+fn margins(rt: &impl Print, counts: &[u64]) -> io::Result<()> {
     let sessions = entries::nth(counts, 0);
     let zero = entries::nth(counts, 1);
-    row::words(b"The margins of each accepted session sum to zero.\n")
-        & row::say(
-            &[],
-            b"    sessions accepted: #; of these with margins that sum to 0: #\n",
-            &[sessions, zero],
-        )
+    row::words(rt, b"The margins of each accepted session sum to zero.\n")?;
+    row::say(
+        rt,
+        &[],
+        b"    sessions accepted: #; of these with margins that sum to 0: #\n",
+        &[sessions, zero],
+    )
 }
 
 // The lots of the lines kept, by section, on either side (01, Calls, 8).
@@ -54,6 +57,7 @@ fn register_lots(
 
 // A section's lots: bought less sold, and what became of them (00, 3; 02, a, 5).
 fn lots_row(
+    rt: &impl Print,
     i: usize,
     bought: u64,
     sold: u64,
@@ -63,12 +67,13 @@ fn lots_row(
     named: u64,
     position: i64,
     names: &[u8],
-) -> bool {
+) -> io::Result<()> {
     let mut sum = [delivered as u64];
     changed::raise(&mut sum, 0, terminated as u64);
     changed::raise(&mut sum, 0, lapsed as u64);
     let all = sum[0];
     row::say(
+        rt,
         names,
         b"    @ bought #, sold #: position ~#\n",
         &[
@@ -78,7 +83,9 @@ fn lots_row(
             row::minus(position),
             signed::size(position),
         ],
-    ) & row::say(
+    )?;
+    row::say(
+        rt,
         &[],
         b"        # delivered + # terminated + # lapsed = #; # in the register\n",
         &[
@@ -93,6 +100,7 @@ fn lots_row(
 
 // The second sentence, section by section (00, 3; 02, a, 5).
 fn lots_rows(
+    rt: &impl Print,
     b: Book,
     bought: &[u64; SECTION_PLACES],
     sold: &[u64; SECTION_PLACES],
@@ -101,19 +109,21 @@ fn lots_rows(
     lapsed: &[u32; SECTION_PLACES],
     named: &[u64; SECTION_PLACES],
     names: &[u8],
-) -> bool {
+) -> io::Result<()> {
     let held = b.held;
-    let mut more = row::words(
+    row::words(
+        rt,
         b"Each section's delivered, terminated and lapsed lots sum to the size of its lots bought less\nsold, and its lots in the register equal its delivered lots.\n",
-    );
+    )?;
     let mut i = 0;
     while i < SECTION_PLACES {
         if held <= i {
-            return more;
+            return Ok(());
         }
         let s = b.sections[i];
         let position = s.position.0;
-        more = lots_row(
+        lots_row(
+            rt,
             i,
             entries::nth(bought, i),
             entries::nth(sold, i),
@@ -123,14 +133,14 @@ fn lots_rows(
             entries::nth(named, i),
             position,
             names,
-        ) & more;
+        )?;
         i += 1;
     }
-    more
+    Ok(())
 }
 
 // A notice: what is drawn of it in the lines formed (01, Calls, 9).
-fn notice(n: Notice, k: usize, drawn: u64, names: &[u8]) -> bool {
+fn notice(rt: &impl Print, n: Notice, k: usize, drawn: u64, names: &[u8]) -> io::Result<()> {
     let lots = n.lots.0;
     let numbers = [
         k as u64,
@@ -140,6 +150,7 @@ fn notice(n: Notice, k: usize, drawn: u64, names: &[u8]) -> bool {
         signed::size(lots),
     ];
     row::say(
+        rt,
         names,
         b"    notice # of @ at elevator #: # drawn of # lots\n",
         &numbers,
@@ -147,19 +158,22 @@ fn notice(n: Notice, k: usize, drawn: u64, names: &[u8]) -> bool {
 }
 
 // The third sentence, notice by notice (00, 3).
-fn notices(b: Book, drawn: &[u64], names: &[u8]) -> bool {
+fn notices(rt: &impl Print, b: Book, drawn: &[u64], names: &[u8]) -> io::Result<()> {
     let filed = b.filed;
-    let mut more = row::words(b"No notice is drawn beyond its lots; lines taken out count too.\n");
+    row::words(
+        rt,
+        b"No notice is drawn beyond its lots; lines taken out count too.\n",
+    )?;
     let mut k = 0;
     while k < NOTICE_PLACES {
         if filed <= k {
-            return more;
+            return Ok(());
         }
         let n = b.notices[k];
-        more = notice(n, k, entries::nth(drawn, k), names) & more;
+        notice(rt, n, k, entries::nth(drawn, k), names)?;
         k += 1;
     }
-    more
+    Ok(())
 }
 
 // One more, where the test passes.
@@ -195,24 +209,27 @@ fn drawn_notices(drawn: &[u64]) -> u64 {
 
 // The fourth sentence: the limit of the lines (00, 3; 02, a, 7).
 fn lines(
+    rt: &impl Print,
     b: Book,
     formed: usize,
     delivered: &[u32; SECTION_PLACES],
     lapsed: &[u32; SECTION_PLACES],
     drawn: &[u64],
-) -> bool {
-    let head = row::words(
+) -> io::Result<()> {
+    row::words(
+        rt,
         b"The lines formed are at most the long sections with delivered or lapsed lots and the drawn\nnotices together, less one.\n",
-    );
+    )?;
     if formed == 0 {
-        return head & row::words(b"    lines formed: 0\n");
+        return row::words(rt, b"    lines formed: 0\n");
     }
     let longs = delivering_longs(b, delivered, lapsed);
     let notices = drawn_notices(drawn);
     let mut most = [longs];
     changed::raise(&mut most, 0, notices);
     let limit = changed::lower(&mut most, 0, 1);
-    head & row::say(
+    row::say(
+        rt,
         &[],
         b"    lines formed: #; such long sections # + drawn notices # - 1 = #\n",
         &[formed as u64, longs, notices, limit],
@@ -220,7 +237,15 @@ fn lines(
 }
 
 // A section's margins: what they are, and what they telescope to (00, 3).
-fn telescoped(s: Section, i: usize, value: i64, entered: i64, sum: i64, names: &[u8]) -> bool {
+fn telescoped(
+    rt: &impl Print,
+    s: Section,
+    i: usize,
+    value: i64,
+    entered: i64,
+    sum: i64,
+    names: &[u8],
+) -> io::Result<()> {
     let position = s.position.0;
     let worth = amounts::worth(position, value);
     let all = amounts::less(worth, entered);
@@ -237,6 +262,7 @@ fn telescoped(s: Section, i: usize, value: i64, entered: i64, sum: i64, names: &
         signed::size(sum),
     ];
     row::say(
+        rt,
         names,
         b"    @: ~# * # less ~# is ~#; its margins sum to ~#\n",
         &numbers,
@@ -245,32 +271,35 @@ fn telescoped(s: Section, i: usize, value: i64, entered: i64, sum: i64, names: &
 
 // The last sentence, section by section; `value` is V of the last session's price (00, 3).
 fn telescope(
+    rt: &impl Print,
     b: Book,
     value: i64,
     entered: &[i64; SECTION_PLACES],
     sums: &[i64; SECTION_PLACES],
     names: &[u8],
-) -> bool {
+) -> io::Result<()> {
     let held = b.held;
-    let mut more = row::words(
+    row::words(
+        rt,
         b"Each section's margins sum to its net lots times the last session's value, less lots times\nentry value, bought plus, sold minus. The number after less sums its bought and sold of the trades.\n",
-    );
+    )?;
     let mut i = 0;
     while i < SECTION_PLACES {
         if held <= i {
-            return more;
+            return Ok(());
         }
         let s = b.sections[i];
         let spent = entries::nth_signed(entered, i);
         let sum = entries::nth_signed(sums, i);
-        more = telescoped(s, i, value, spent, sum, names) & more;
+        telescoped(rt, s, i, value, spent, sum, names)?;
         i += 1;
     }
-    more
+    Ok(())
 }
 
 // All five sentences.
 pub fn explain(
+    rt: &impl Print,
     end: Ended,
     k: u32,
     bought: &[u64; SECTION_PLACES],
@@ -279,7 +308,7 @@ pub fn explain(
     counts: &[u64; 2],
     drawn: &[u64; NOTICE_PLACES],
     names: &[u8],
-) -> bool {
+) -> io::Result<()> {
     let b = end.book;
     let buyers = end.buyers;
     let sellers = end.sellers;
@@ -291,19 +320,23 @@ pub fn explain(
     let mut named = [0; SECTION_PLACES];
     register_lots(end.kept, &buyers, &sellers, &lots, &mut named);
     let value = value::value(k, b.price).0;
-    row::words(b"\nDEMAND 3, WITH THE NUMBERS OF THIS CONTRACT (00, 3; 02, a)\n")
-        & margins(counts)
-        & lots_rows(
-            b,
-            bought,
-            sold,
-            &delivered,
-            &terminated,
-            &lapsed,
-            &named,
-            names,
-        )
-        & notices(b, drawn, names)
-        & lines(b, end.formed, &delivered, &lapsed, drawn)
-        & telescope(b, value, entered, &sums, names)
+    row::words(
+        rt,
+        b"\nDEMAND 3, WITH THE NUMBERS OF THIS CONTRACT (00, 3; 02, a)\n",
+    )?;
+    margins(rt, counts)?;
+    lots_rows(
+        rt,
+        b,
+        bought,
+        sold,
+        &delivered,
+        &terminated,
+        &lapsed,
+        &named,
+        names,
+    )?;
+    notices(rt, b, drawn, names)?;
+    lines(rt, b, end.formed, &delivered, &lapsed, drawn)?;
+    telescope(rt, b, value, entered, &sums, names)
 }

@@ -4,12 +4,15 @@ use crate::told::Told;
 use explain_row::row;
 use rules::book::Book;
 use rules::limits::ACCEPTED;
+use std::io;
+use std::io::Print;
 
 // The seven bytes of each section's code, end to end.
 pub const NAME_BYTES: usize = 896;
 
 // A section opened (01, Section, 1).
 pub fn section(
+    rt: &impl Print,
     b: Book,
     place: usize,
     settlement: u8,
@@ -17,10 +20,10 @@ pub fn section(
     participant: u32,
     seller: bool,
     names: &mut [u8; NAME_BYTES],
-) -> Told {
+) -> io::Result<Told> {
     let answer = call_section::open_section(b, settlement, code, participant, seller);
     if answer.number != ACCEPTED {
-        return told::answered(answer, true);
+        return Ok(told::answered(answer));
     }
     let book = answer.book;
     listing::codes::laid(book, names);
@@ -32,38 +35,57 @@ pub fn section(
         settlement as u64,
         participant as u64,
     ];
-    let text = row::say(
+    row::say(
+        rt,
         names,
         b"# section: @ has number #, settlement code #, participant #",
         &numbers,
-    );
-    told::answered(answer, text & row::seller_mark(seller) & row::words(b"\n"))
+    )?;
+    row::seller_mark(rt, seller)?;
+    row::words(rt, b"\n")?;
+    Ok(told::answered(answer))
 }
 
 // A condition met or not (01, Condition, 1).
-pub fn condition(b: Book, place: usize, section: u8, met: bool, names: &[u8]) -> Told {
+pub fn condition(
+    rt: &impl Print,
+    b: Book,
+    place: usize,
+    section: u8,
+    met: bool,
+    names: &[u8],
+) -> io::Result<Told> {
     let answer = call_condition::set_condition(b, section, met);
     if answer.number != ACCEPTED {
-        return told::answered(answer, true);
+        return Ok(told::answered(answer));
     }
     let numbers = [place as u64, section as u64];
     if met {
-        let text = row::say(names, b"# condition: @ meets its condition\n", &numbers);
-        return told::answered(answer, text);
+        row::say(rt, names, b"# condition: @ meets its condition\n", &numbers)?;
+        return Ok(told::answered(answer));
     }
-    let text = row::say(
+    row::say(
+        rt,
         names,
         b"# condition: @ does not meet its condition\n",
         &numbers,
-    );
-    told::answered(answer, text)
+    )?;
+    Ok(told::answered(answer))
 }
 
 // A notice filed (01, Notice, 1).
-pub fn notice(b: Book, place: usize, section: u8, elevator: u8, lots: u32, names: &[u8]) -> Told {
+pub fn notice(
+    rt: &impl Print,
+    b: Book,
+    place: usize,
+    section: u8,
+    elevator: u8,
+    lots: u32,
+    names: &[u8],
+) -> io::Result<Told> {
     let answer = call_notice::file_notice(b, section, elevator, lots);
     if answer.number != ACCEPTED {
-        return told::answered(answer, true);
+        return Ok(told::answered(answer));
     }
     let numbers = [
         place as u64,
@@ -72,10 +94,11 @@ pub fn notice(b: Book, place: usize, section: u8, elevator: u8, lots: u32, names
         elevator as u64,
         b.filed as u64,
     ];
-    let text = row::say(
+    row::say(
+        rt,
         names,
         b"# notice: @ files # lots at elevator #, notice # in filing order\n",
         &numbers,
-    );
-    told::answered(answer, text)
+    )?;
+    Ok(told::answered(answer))
 }

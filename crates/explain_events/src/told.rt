@@ -1,19 +1,17 @@
 // What the walk over the events goes on with.
 use rules::book::{Answer, Book};
 
-// An event's number, whether all that was to be said of it was written, and the book after it.
+// An event's number, and the book after it.
 #[derive(Drop)]
 pub struct Told {
     pub number: u8,
-    pub written: bool,
     pub book: Book,
 }
 
-pub fn answered(answer: Answer, written: bool) -> Told {
+pub fn answered(answer: Answer) -> Told {
     let book = answer.book;
     Told {
         number: answer.number,
-        written,
         book,
     }
 }

@@ -5,6 +5,8 @@ use explain_row::{amounts, rounding, row};
 use list_leaves::changed;
 use rules::book::{Book, Section};
 use rules::limits::{ACCEPTED, SECTION_PLACES};
+use std::io;
+use std::io::Print;
 use value::signed;
 
 // A section of the book, by its number.
@@ -16,7 +18,15 @@ pub fn section_of(b: Book, i: usize) -> Section {
 }
 
 // What the trade leaves a section; `sold` says on which side it stands (01, Book, 4).
-fn party(s: Section, i: u8, lots: u32, value: i64, sold: bool, names: &[u8]) -> bool {
+fn party(
+    rt: &impl Print,
+    s: Section,
+    i: u8,
+    lots: u32,
+    value: i64,
+    sold: bool,
+    names: &[u8],
+) -> io::Result<()> {
     let position = s.position.0;
     let basis = s.basis.0;
     let worth = amounts::worth(lots as i64, value);
@@ -32,12 +42,14 @@ fn party(s: Section, i: u8, lots: u32, value: i64, sold: bool, names: &[u8]) -> 
     ];
     if sold {
         return row::say(
+            rt,
             names,
             b"    @: #*# = # sold, position ~#, basis ~#\n",
             &numbers,
         );
     }
     row::say(
+        rt,
         names,
         b"    @: #*# = # bought, position ~#, basis ~#\n",
         &numbers,
@@ -63,6 +75,7 @@ fn counted(
 
 // A trade (01, Trade, 1).
 pub fn trade(
+    rt: &impl Print,
     b: Book,
     place: usize,
     k: u32,
@@ -74,10 +87,10 @@ pub fn trade(
     bought: &mut [u64; SECTION_PLACES],
     sold: &mut [u64; SECTION_PLACES],
     entered: &mut [i64; SECTION_PLACES],
-) -> Told {
+) -> io::Result<Told> {
     let answer = call_trade::trade(b, buyer, seller, price, lots);
     if answer.number != ACCEPTED {
-        return told::answered(answer, true);
+        return Ok(told::answered(answer));
     }
     let book = answer.book;
     let value = value::value(k, price).0;
@@ -89,15 +102,16 @@ pub fn trade(
         seller as u64,
         price as u64,
     ];
-    let head = row::say(
+    row::say(
+        rt,
         names,
         b"# trade: @ buys # lots from @ at price P #; V = P*K/100000\n",
         &numbers,
-    );
-    let division = rounding::value(k, price);
+    )?;
+    rounding::value(rt, k, price)?;
     let buying = section_of(book, buyer as usize);
     let selling = section_of(book, seller as usize);
-    let parties = party(buying, buyer, lots, value, false, names)
-        & party(selling, seller, lots, value, true, names);
-    told::answered(answer, head & division & parties)
+    party(rt, buying, buyer, lots, value, false, names)?;
+    party(rt, selling, seller, lots, value, true, names)?;
+    Ok(told::answered(answer))
 }

@@ -5,10 +5,12 @@ ghost use Rattle.rules.specs.Value;
 use crate::row;
 use rules::limits::{FACTOR_MOST, FACTOR_UNIT};
 use rules::rounding::Case;
+use std::io;
+use std::io::Print;
 use value::rounding;
 
 // The product of two numbers, by a divisor: its quotient, its remainder, the case of it and the result.
-fn divided(first: u64, second: u64, n: u64, d: u64) -> bool {
+fn divided(rt: &impl Print, first: u64, second: u64, n: u64, d: u64) -> io::Result<()> {
     let division = rounding::divided(n, d);
     let quotient = division.quotient;
     let remainder = division.remainder;
@@ -17,16 +19,19 @@ fn divided(first: u64, second: u64, n: u64, d: u64) -> bool {
     let numbers = [first, second, d, quotient, remainder, result];
     match case {
         Case::BelowHalf => row::say(
+            rt,
             &[],
             b"    #*#/#: quotient #, remainder #, below half: #\n",
             &numbers,
         ),
         Case::AtHalf => row::say(
+            rt,
             &[],
             b"    #*#/#: quotient #, remainder #, at half, so up: #\n",
             &numbers,
         ),
         Case::AboveHalf => row::say(
+            rt,
             &[],
             b"    #*#/#: quotient #, remainder #, above half, so up: #\n",
             &numbers,
@@ -35,18 +40,18 @@ fn divided(first: u64, second: u64, n: u64, d: u64) -> bool {
 }
 
 // K; with an R of 0 there is none (01, Value, 2).
-pub fn factor(w: u32, r: u32) -> bool {
+pub fn factor(rt: &impl Print, w: u32, r: u32) -> io::Result<()> {
     if r == 0 {
-        return row::words(b"    R is 0, and there is no K\n");
+        return row::words(rt, b"    R is 0, and there is no K\n");
     }
     let n = FACTOR_UNIT * (w as u64);
-    divided(FACTOR_UNIT, w as u64, n, r as u64)
+    divided(rt, FACTOR_UNIT, w as u64, n, r as u64)
 }
 
 // V of a price (01, Value, 3).
-pub fn value(k: u32, price: u32) -> bool {
+pub fn value(rt: &impl Print, k: u32, price: u32) -> io::Result<()> {
     let n = value::multiplied(price, k);
-    divided(price as u64, k as u64, n, FACTOR_UNIT)
+    divided(rt, price as u64, k as u64, n, FACTOR_UNIT)
 }
 
 // K of W and R, 0 where it is beyond its limit (01, Opening, 1).

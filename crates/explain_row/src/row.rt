@@ -3,8 +3,9 @@ ghost use Rattle.rules.specs.Words.{◌≡◌, ◌+◌, ◌≤◌, ◌<◌, cond
 ghost use Rattle.explain_row.specs.Amounts.{sign_of};
 ghost use Rattle.explain_row.specs.Folded.{Folded};
 
-use libc::STDOUT_FILENO;
 use listing::text::{LINE_END, SPACE};
+use std::io;
+use std::io::Print;
 
 // The longest template, and the most bytes that one can come to.
 const ROW_BYTES: usize = 3_584;
@@ -82,32 +83,31 @@ fn fold(text: &mut [u8])
 }
 
 // A text folded and written out.
-fn folded(text: &mut [u8]) -> bool
+fn folded(rt: &impl Print, text: &mut [u8]) -> io::Result<()>
     requires { length text.old ≤ 3_584 }
 {
     fold(text);
-    io::write_all(STDOUT_FILENO, text)
+    rt.write_all(text)
 }
 
-// A template of at most 128 bytes, filled: `#` is the next number, `~` a minus sign where it is not 0, `@` the code of the section of that number. It answers
-// whether all was written.
-pub fn say(names: &[u8], template: &[u8], numbers: &[u64]) -> bool
+// A template of at most 128 bytes, filled: `#` is the next number, `~` a minus sign where it is not 0, `@` the code of the section of that number.
+pub fn say(rt: &impl Print, names: &[u8], template: &[u8], numbers: &[u64]) -> io::Result<()>
     requires { length template.now ≤ 128 }
 {
     let mut out = [0; ROW_BYTES];
     let count = template::fill(template, numbers, names, &mut out, 0);
-    folded(&mut out[..count])
+    folded(rt, &mut out[..count])
 }
 
 // A row of words alone.
-pub fn words(text: &[u8]) -> bool {
-    io::write_all(STDOUT_FILENO, text)
+pub fn words(rt: &impl Print, text: &[u8]) -> io::Result<()> {
+    rt.write_all(text)
 }
 
 // With or without the seller mark.
-pub fn seller_mark(seller: bool) -> bool {
+pub fn seller_mark(rt: &impl Print, seller: bool) -> io::Result<()> {
     if seller {
-        return words(b", seller mark");
+        return words(rt, b", seller mark");
     }
-    words(b", no seller mark")
+    words(rt, b", no seller mark")
 }

@@ -5,6 +5,8 @@ use explain_row::row;
 use list_leaves::entries;
 use method_giving::lists;
 use rules::limits::SETTLEMENT_CODES;
+use std::io;
+use std::io::Print;
 
 // The lots of a section where its settlement code is c, and 0 else.
 pub fn lots_in(codes: &[u8], lots: &[u64], c: u8, i: usize) -> u64
@@ -39,11 +41,18 @@ pub fn sizes(numbers: [i64; SETTLEMENT_CODES]) -> [u64; SETTLEMENT_CODES]
 }
 
 // What a section of a code has, with the sign of its position.
-fn section_row(mine: u64, position: i64, i: usize, names: &[u8]) -> bool {
+fn section_row(
+    rt: &impl Print,
+    mine: u64,
+    position: i64,
+    i: usize,
+    names: &[u8],
+) -> io::Result<()> {
     if mine == 0 {
-        return true;
+        return Ok(());
     }
     row::say(
+        rt,
         names,
         b"    @ has ~#\n",
         &[i as u64, row::minus(position), mine],
@@ -51,15 +60,21 @@ fn section_row(mine: u64, position: i64, i: usize, names: &[u8]) -> bool {
 }
 
 // What each section of settlement code c has; the sum with sign is the code's net (01, Expiry, 2.1; 000, 2.2.1).
-pub fn rows(codes: &[u8], positions: &[i64], lots: &[u64], c: u8, names: &[u8]) -> bool {
+pub fn rows(
+    rt: &impl Print,
+    codes: &[u8],
+    positions: &[i64],
+    lots: &[u64],
+    c: u8,
+    names: &[u8],
+) -> io::Result<()> {
     let all = lots.len();
-    let mut more = true;
     let mut i = 0;
     while i < all {
         let mine = lots_in(codes, lots, c, i);
         let position = entries::nth_signed(positions, i);
-        more = section_row(mine, position, i, names) & more;
+        section_row(rt, mine, position, i, names)?;
         i += 1;
     }
-    more
+    Ok(())
 }

@@ -12,9 +12,17 @@ use method_columns::whole;
 use method_columns::whole::Columns;
 use rules::book::Book;
 use rules::limits::{NOTICE_PLACES, SETTLEMENT_CODES};
+use std::io;
+use std::io::Print;
 
 // Steps 1 to 5 (01, Expiry, 1.1; 01, Expiry, 2.1; 01, Expiry, 3.1; 01, Expiry, 4.1; 01, Expiry, 5.1).
-fn giving_steps(b: Book, columns: Columns, a: Account, names: &[u8]) -> bool {
+fn giving_steps(
+    rt: &impl Print,
+    b: Book,
+    columns: Columns,
+    a: Account,
+    names: &[u8],
+) -> io::Result<()> {
     let held = b.held;
     let codes = columns.codes;
     let positions = columns.positions;
@@ -26,15 +34,16 @@ fn giving_steps(b: Book, columns: Columns, a: Account, names: &[u8]) -> bool {
     let kept = third.kept;
     let fourth = a.outside;
     let fifth = a.drawn;
-    step_one::explain(b, first, names)
-        & step_two::explain(&codes, &positions, &failed, held, second, names)
-        & step_three::explain(&codes, &positions, &left, held, third, names)
-        & step_four::explain(&codes, &kept, held, fourth, names)
-        & step_five::explain(b, &positions, &failed, fifth, names)
+    step_one::explain(rt, b, first, names)?;
+    step_two::explain(rt, &codes, &positions, &failed, held, second, names)?;
+    step_three::explain(rt, &codes, &positions, &left, held, third, names)?;
+    step_four::explain(rt, &codes, &kept, held, fourth, names)?;
+    step_five::explain(rt, b, &positions, &failed, fifth, names)
 }
 
 // The inside passes by settlement code; one that forms nothing is passed over. `near` and `inside` are the account's fronts (01, Expiry, 6.1).
 fn inside_passes(
+    rt: &impl Print,
     columns: Columns,
     codes: &[u8],
     positions: &[i64],
@@ -46,23 +55,23 @@ fn inside_passes(
     formed: &mut [u64; 2],
     sold: &mut [u64; NOTICE_PLACES],
     names: &[u8],
-) -> bool
+) -> io::Result<()>
     requires { Behind (Near codes.now positions.now keys.now selling.now stands.now near.now inside.now) }
 {
-    let mut more = true;
     let mut c = 0;
     while c < SETTLEMENT_CODES {
         let p = passes::inside_pass(
             codes, positions, keys, selling, stands, near, inside, c as u8,
         );
-        more = step_six::inside(p, c, columns, formed, sold, names) & more;
+        step_six::inside(rt, p, c, columns, formed, sold, names)?;
         c += 1;
     }
-    more
+    Ok(())
 }
 
 // All steps of a good book, on its columns (01, Expiry, 1.1; 01, Expiry, 6.1; 02, a, 6).
 fn on_columns(
+    rt: &impl Print,
     b: Book,
     columns: Columns,
     codes: &[u8],
@@ -74,7 +83,7 @@ fn on_columns(
     kept: usize,
     sold: &mut [u64; NOTICE_PLACES],
     names: &[u8],
-) -> bool
+) -> io::Result<()>
     requires { (good b ≡ true) × ColumnsOf b codes.now positions.now keys.now selling.now stands.now stock.now }
 {
     let held = b.held;
@@ -85,8 +94,10 @@ fn on_columns(
     let inside = a.drawn.inside;
     let beyond = a.drawn.beyond;
     let mut formed = [0; 2];
-    let giving = giving_steps(b, columns, a, names) & step_six::head();
-    let rows = inside_passes(
+    giving_steps(rt, b, columns, a, names)?;
+    step_six::head(rt)?;
+    inside_passes(
+        rt,
         columns,
         codes,
         positions,
@@ -98,7 +109,7 @@ fn on_columns(
         &mut formed,
         sold,
         names,
-    );
+    )?;
     let p = passes::outside_pass(
         positions,
         keys,
@@ -107,12 +118,18 @@ fn on_columns(
         &far[..held],
         &beyond[..filed],
     );
-    let last = step_six::outside(p, columns, &mut formed, sold, names);
-    giving & rows & last & step_six::end(formed, kept)
+    step_six::outside(rt, p, columns, &mut formed, sold, names)?;
+    step_six::end(rt, formed, kept)
 }
 
 // All steps of a good book, which keeps so many lines; `sold` gets what is drawn of each notice (01, Expiry, 1.1; 01, Expiry, 6.1).
-pub fn steps(b: Book, kept: usize, sold: &mut [u64; NOTICE_PLACES], names: &[u8]) -> bool
+pub fn steps(
+    rt: &impl Print,
+    b: Book,
+    kept: usize,
+    sold: &mut [u64; NOTICE_PLACES],
+    names: &[u8],
+) -> io::Result<()>
     requires { good b ≡ true }
 {
     let held = b.held;
@@ -125,6 +142,7 @@ pub fn steps(b: Book, kept: usize, sold: &mut [u64; NOTICE_PLACES], names: &[u8]
     let stands = columns.stands;
     let stock = columns.stock;
     on_columns(
+        rt,
         b,
         columns,
         &codes[..held],

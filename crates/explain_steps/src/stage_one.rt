@@ -5,6 +5,8 @@ use explain_row::row;
 use list_leaves::{changed, entries, found};
 use method_passes::pairs::Pairs;
 use rules::limits::{ELEVATORS, SECTION_PLACES};
+use std::io;
+use std::io::Print;
 
 // A buyer's lots at an elevator.
 #[derive(Drop)]
@@ -15,50 +17,49 @@ struct Pair {
 }
 
 // A buyer of the pass.
-fn buyer(i: usize, lots: u64, names: &[u8]) -> bool {
+fn buyer(rt: &impl Print, i: usize, lots: u64, names: &[u8]) -> io::Result<()> {
     if lots == 0 {
-        return true;
+        return Ok(());
     }
-    row::say(names, b"  buyer @ has # lots\n", &[i as u64, lots])
+    row::say(rt, names, b"  buyer @ has # lots\n", &[i as u64, lots])
 }
 
 // The buyers with lots (01, Expiry, 6.1).
-pub fn buyers(lots: &[u64], names: &[u8]) -> bool {
+pub fn buyers(rt: &impl Print, lots: &[u64], names: &[u8]) -> io::Result<()> {
     let all = lots.len();
-    let mut more = true;
     let mut i = 0;
     while i < all {
-        more = buyer(i, entries::nth(lots, i), names) & more;
+        buyer(rt, i, entries::nth(lots, i), names)?;
         i += 1;
     }
-    more
+    Ok(())
 }
 
 // An elevator of the pass.
-fn elevator(e: usize, lots: u64) -> bool {
+fn elevator(rt: &impl Print, e: usize, lots: u64) -> io::Result<()> {
     if lots == 0 {
-        return true;
+        return Ok(());
     }
-    row::say(&[], b"  elevator # has # lots\n", &[e as u64, lots])
+    row::say(rt, &[], b"  elevator # has # lots\n", &[e as u64, lots])
 }
 
 // The elevators with lots, what is drawn of the notices at each for this pass (01, Expiry, 6.2).
-pub fn elevators(stocks: &[u64]) -> bool {
-    let mut more = true;
+pub fn elevators(rt: &impl Print, stocks: &[u64]) -> io::Result<()> {
     let mut e = 0;
     while e < ELEVATORS {
-        more = elevator(e, entries::nth(stocks, e)) & more;
+        elevator(rt, e, entries::nth(stocks, e))?;
         e += 1;
     }
-    more
+    Ok(())
 }
 
 // That several buyers had most lots (01, Expiry, 6.4).
-fn buyers_tied(tied: usize, lots: u64, buyer: u8, names: &[u8]) -> bool {
+fn buyers_tied(rt: &impl Print, tied: usize, lots: u64, buyer: u8, names: &[u8]) -> io::Result<()> {
     if tied < 2 {
-        return true;
+        return Ok(());
     }
     row::say(
+        rt,
         names,
         b"    tie: # buyers have # lots; the lowest section code, @, is taken\n",
         &[tied as u64, lots, buyer as u64],
@@ -66,11 +67,12 @@ fn buyers_tied(tied: usize, lots: u64, buyer: u8, names: &[u8]) -> bool {
 }
 
 // That several elevators had most lots (01, Expiry, 6.4).
-fn elevators_tied(tied: usize, lots: u64, elevator: u8) -> bool {
+fn elevators_tied(rt: &impl Print, tied: usize, lots: u64, elevator: u8) -> io::Result<()> {
     if tied < 2 {
-        return true;
+        return Ok(());
     }
     row::say(
+        rt,
         &[],
         b"    tie: # elevators have # lots; the lowest number, #, is taken\n",
         &[tied as u64, lots, elevator as u64],
@@ -79,6 +81,7 @@ fn elevators_tied(tied: usize, lots: u64, elevator: u8) -> bool {
 
 // A pair: what its buyer and its elevator had, and what is left of both (01, Expiry, 6.2; 000, 2.5).
 fn pair_row(
+    rt: &impl Print,
     number: u64,
     buyer: u8,
     elevator: u8,
@@ -86,11 +89,11 @@ fn pair_row(
     bought: &mut [u64; SECTION_PLACES],
     stocks: &mut [u64; ELEVATORS],
     names: &[u8],
-) -> bool {
+) -> io::Result<()> {
     let has = entries::nth(bought, buyer as usize);
     let stands = entries::nth(stocks, elevator as usize);
-    let ties = buyers_tied(found::alike(bought, has), has, buyer, names)
-        & elevators_tied(found::alike(stocks, stands), stands, elevator);
+    buyers_tied(rt, found::alike(bought, has), has, buyer, names)?;
+    elevators_tied(rt, found::alike(stocks, stands), stands, elevator)?;
     let left = changed::lower(bought, buyer as usize, lots);
     let rest = changed::lower(stocks, elevator as usize, lots);
     let numbers = [
@@ -103,7 +106,8 @@ fn pair_row(
         left,
         rest,
     ];
-    ties & row::say(
+    row::say(
+        rt,
         names,
         b"  pair #: @ with # and elevator # with #: # lots; left # and #\n",
         &numbers,
@@ -126,20 +130,21 @@ fn pair_at(ps: Pairs, p: usize) -> Pair
 
 // The first pairs in the order in which they are formed; `formed` has how many were formed before (01, Expiry, 6.2).
 fn pair_rows(
+    rt: &impl Print,
     ps: Pairs,
     count: usize,
     bought: &mut [u64; SECTION_PLACES],
     stocks: &mut [u64; ELEVATORS],
     formed: &mut [u64; 2],
     names: &[u8],
-) -> bool {
-    let mut more = true;
+) -> io::Result<()> {
     let mut p = 0;
     while p < count {
         let next = pair_at(ps, p);
         changed::raise(formed, 0, 1);
         let number = entries::nth(formed, 0);
-        more = pair_row(
+        pair_row(
+            rt,
             number,
             next.buyer,
             next.elevator,
@@ -147,21 +152,25 @@ fn pair_rows(
             bought,
             stocks,
             names,
-        ) & more;
+        )?;
         p += 1;
     }
-    more
+    Ok(())
 }
 
 // All pairs of a pass (01, Expiry, 6.2).
 pub fn pairs(
+    rt: &impl Print,
     ps: Pairs,
     bought: &mut [u64; SECTION_PLACES],
     stocks: &mut [u64; ELEVATORS],
     formed: &mut [u64; 2],
     names: &[u8],
-) -> bool {
+) -> io::Result<()> {
     let count = ps.count;
-    row::words(b"  stage one: the fullest buyer and the fullest elevator form a pair\n")
-        & pair_rows(ps, count, bought, stocks, formed, names)
+    row::words(
+        rt,
+        b"  stage one: the fullest buyer and the fullest elevator form a pair\n",
+    )?;
+    pair_rows(rt, ps, count, bought, stocks, formed, names)
 }

@@ -8,6 +8,8 @@ use method_passes::pairs::Pairs;
 use method_passes::register::Register;
 use method_register::chosen;
 use rules::limits::{NOTICE_PLACES, PAIR_PLACES, SECTION_PLACES};
+use std::io;
+use std::io::Print;
 
 // Who buys from whom, where, how many lots.
 #[derive(Drop)]
@@ -20,59 +22,64 @@ struct Line {
 
 // That several pairs had most lots: the lowest buyer's section code, and of one buyer's pairs the lowest elevator (01, Expiry, 6.4).
 fn pairs_tied(
+    rt: &impl Print,
     buyers: &[u8; PAIR_PLACES],
     left: &[u64; PAIR_PLACES],
     lots: u64,
     buyer: u8,
     elevator: u8,
     names: &[u8],
-) -> bool {
+) -> io::Result<()> {
     let tied = found::alike(left, lots);
     if tied < 2 {
-        return true;
+        return Ok(());
     }
     let mut own = [0; PAIR_PLACES];
     chosen::lots_in_code(buyers, left, buyer, &mut own);
     let same = found::alike(&own, lots);
     if same == tied {
         return row::say(
+            rt,
             names,
             b"    tie: # pairs of @ have # lots; the lowest elevator, #, is taken\n",
             &[tied as u64, buyer as u64, lots, elevator as u64],
         );
     }
-    let several = row::say(
+    row::say(
+        rt,
         names,
         b"    tie: # pairs have # lots; the lowest buyer section code, @, is taken\n",
         &[tied as u64, lots, buyer as u64],
-    );
+    )?;
     if same < 2 {
-        return several;
+        return Ok(());
     }
-    several
-        & row::say(
-            names,
-            b"    tie: # of them are of @; the lowest elevator, #, is taken\n",
-            &[same as u64, buyer as u64, elevator as u64],
-        )
+    row::say(
+        rt,
+        names,
+        b"    tie: # of them are of @; the lowest elevator, #, is taken\n",
+        &[same as u64, buyer as u64, elevator as u64],
+    )
 }
 
 // That several notices at the elevator had most lots (01, Expiry, 6.4).
 fn notices_tied(
+    rt: &impl Print,
     stands: &[u8; NOTICE_PLACES],
     drawn: &[u64; NOTICE_PLACES],
     lots: u64,
     elevator: u8,
     seller: u8,
     names: &[u8],
-) -> bool {
+) -> io::Result<()> {
     let mut there = [0; NOTICE_PLACES];
     chosen::lots_in_code(stands, drawn, elevator, &mut there);
     let tied = found::alike(&there, lots);
     if tied < 2 {
-        return true;
+        return Ok(());
     }
     row::say(
+        rt,
         names,
         b"    tie: # notices at elevator # have # lots; the lowest seller section code, @, is taken\n",
         &[tied as u64, elevator as u64, lots, seller as u64],
@@ -81,18 +88,20 @@ fn notices_tied(
 
 // That a line is taken out: buyer and seller are one participant (02, a, 1 and 3).
 fn taken_out(
+    rt: &impl Print,
     buyer: u8,
     seller: u8,
     lots: u64,
     persons: &[u32; SECTION_PLACES],
     names: &[u8],
-) -> bool {
+) -> io::Result<()> {
     let person = entries::nth_small(persons, buyer as usize);
     if person != entries::nth_small(persons, seller as usize) {
-        return true;
+        return Ok(());
     }
     let numbers = [buyer as u64, seller as u64, person as u64, lots];
     row::say(
+        rt,
         names,
         b"    taken out (02, a; 001, 3.4): @ and @ are both participant #; # lots lapse for each\n",
         &numbers,
@@ -101,6 +110,7 @@ fn taken_out(
 
 // A line: what its pair and its notice had, and what is left of both (01, Expiry, 6.3; 000, 2.5).
 fn line_row(
+    rt: &impl Print,
     number: u64,
     buyer: u8,
     elevator: u8,
@@ -113,13 +123,13 @@ fn line_row(
     stands: &[u8; NOTICE_PLACES],
     drawn: &mut [u64; NOTICE_PLACES],
     names: &[u8],
-) -> bool {
+) -> io::Result<()> {
     let p = found::place_of(buyers, elevators, buyer, elevator);
     let k = found::place_of(selling, stands, seller, elevator);
     let has = entries::nth(left, p);
     let offered = entries::nth(drawn, k);
-    let ties = pairs_tied(buyers, left, has, buyer, elevator, names)
-        & notices_tied(stands, drawn, offered, elevator, seller, names);
+    pairs_tied(rt, buyers, left, has, buyer, elevator, names)?;
+    notices_tied(rt, stands, drawn, offered, elevator, seller, names)?;
     let rest = changed::lower(left, p, lots);
     let more = changed::lower(drawn, k, lots);
     let numbers = [
@@ -134,7 +144,8 @@ fn line_row(
         rest,
         more,
     ];
-    ties & row::say(
+    row::say(
+        rt,
         names,
         b"  line #: @ at elevator # with #, notice # of @ with #: # lots; left # and #\n",
         &numbers,
@@ -172,6 +183,7 @@ fn drawn_more(
 
 // Line n of a pass, whose number over all passes `formed` gets; `sold` gets what it draws (01, Expiry, 6.3).
 fn next_line(
+    rt: &impl Print,
     g: Register,
     n: usize,
     buyers: &[u8; PAIR_PLACES],
@@ -182,7 +194,7 @@ fn next_line(
     formed: &mut [u64; 2],
     sold: &mut [u64; NOTICE_PLACES],
     names: &[u8],
-) -> bool {
+) -> io::Result<()> {
     let next = line_at(g, n);
     let buyer = next.buyer;
     let elevator = next.elevator;
@@ -195,13 +207,15 @@ fn next_line(
     let number = entries::nth(formed, 1);
     drawn_more(elevator, seller, lots, &selling, &stands, sold);
     line_row(
-        number, buyer, elevator, seller, lots, buyers, elevators, left, &selling, &stands, drawn,
-        names,
-    ) & taken_out(buyer, seller, lots, &persons, names)
+        rt, number, buyer, elevator, seller, lots, buyers, elevators, left, &selling, &stands,
+        drawn, names,
+    )?;
+    taken_out(rt, buyer, seller, lots, &persons, names)
 }
 
 // The first lines in the order in which they are formed (01, Expiry, 6.3).
 fn line_rows(
+    rt: &impl Print,
     g: Register,
     count: usize,
     buyers: &[u8; PAIR_PLACES],
@@ -212,20 +226,20 @@ fn line_rows(
     formed: &mut [u64; 2],
     sold: &mut [u64; NOTICE_PLACES],
     names: &[u8],
-) -> bool {
-    let mut more = true;
+) -> io::Result<()> {
     let mut n = 0;
     while n < count {
-        more = next_line(
-            g, n, buyers, elevators, left, columns, drawn, formed, sold, names,
-        ) & more;
+        next_line(
+            rt, g, n, buyers, elevators, left, columns, drawn, formed, sold, names,
+        )?;
         n += 1;
     }
-    more
+    Ok(())
 }
 
 // All lines of a pass (01, Expiry, 6.3).
 pub fn lines(
+    rt: &impl Print,
     ps: Pairs,
     g: Register,
     columns: Columns,
@@ -233,14 +247,16 @@ pub fn lines(
     formed: &mut [u64; 2],
     sold: &mut [u64; NOTICE_PLACES],
     names: &[u8],
-) -> bool {
+) -> io::Result<()> {
     let buyers = ps.buyers;
     let elevators = ps.elevators;
     let mut left = ps.lots;
     let count = g.count;
     row::words(
+        rt,
         b"  stage two: the fullest pair and the fullest notice at its elevator form a line\n",
-    ) & line_rows(
-        g, count, &buyers, &elevators, &mut left, columns, drawn, formed, sold, names,
+    )?;
+    line_rows(
+        rt, g, count, &buyers, &elevators, &mut left, columns, drawn, formed, sold, names,
     )
 }

@@ -4,19 +4,29 @@ use list_leaves::{changed, entries};
 use method_account::drawing::Drawn;
 use rules::book::{Book, Notice};
 use rules::limits::{NOTICE_PLACES, SECTION_PLACES};
+use std::io;
+use std::io::Print;
 use value::signed;
 
 // A notice of a short section: its lots inside, outside and terminated; of a section that fails nothing is drawn (01, Expiry, 5.1).
-fn drawn(numbers: [u64; 4], inside: u64, beyond: u64, failed: u64, names: &[u8]) -> bool {
+fn drawn(
+    rt: &impl Print,
+    numbers: [u64; 4],
+    inside: u64,
+    beyond: u64,
+    failed: u64,
+    names: &[u8],
+) -> io::Result<()> {
     let lots = numbers[3];
-    let head = row::say(names, b"notice #: @ at elevator #, # lots", &numbers);
+    row::say(rt, names, b"notice #: @ at elevator #, # lots", &numbers)?;
     if 0 < failed {
-        return head & row::words(b": none is drawn, the section fails\n");
+        return row::words(rt, b": none is drawn, the section fails\n");
     }
     let mut rest = [lots];
     changed::lower(&mut rest, 0, inside);
     let terminated = changed::lower(&mut rest, 0, beyond);
-    head & row::say(
+    row::say(
+        rt,
         &[],
         b": # inside, # outside, # terminated\n",
         &[inside, beyond, terminated],
@@ -25,6 +35,7 @@ fn drawn(numbers: [u64; 4], inside: u64, beyond: u64, failed: u64, names: &[u8])
 
 // A notice; one of a section that is not short is passed over (01, Expiry, 5.1; 01, Expiry, 6.5).
 fn notice(
+    rt: &impl Print,
     n: Notice,
     k: usize,
     position: i64,
@@ -32,7 +43,7 @@ fn notice(
     beyond: u64,
     failed: u64,
     names: &[u8],
-) -> bool {
+) -> io::Result<()> {
     let lots = n.lots.0;
     let numbers = [
         k as u64,
@@ -41,9 +52,10 @@ fn notice(
         signed::size(lots),
     ];
     if position < 0 {
-        return drawn(numbers, inside, beyond, failed, names);
+        return drawn(rt, numbers, inside, beyond, failed, names);
     }
     row::say(
+        rt,
         names,
         b"notice #: @ at elevator #, # lots: ignored, the section is not short\n",
         &numbers,
@@ -52,13 +64,14 @@ fn notice(
 
 // Notice k, with what its section has and what is drawn of it (01, Expiry, 5.1).
 fn notice_row(
+    rt: &impl Print,
     n: Notice,
     k: usize,
     positions: &[i64; SECTION_PLACES],
     failed: &[u64; SECTION_PLACES],
     fifth: Drawn,
     names: &[u8],
-) -> bool {
+) -> io::Result<()> {
     let i = n.section as usize;
     let inside = fifth.inside;
     let beyond = fifth.beyond;
@@ -66,29 +79,31 @@ fn notice_row(
     let lost = entries::nth(failed, i);
     let near = entries::nth(&inside, k);
     let far = entries::nth(&beyond, k);
-    notice(n, k, position, near, far, lost, names)
+    notice(rt, n, k, position, near, far, lost, names)
 }
 
 // Every notice, in filing order (01, Expiry, 5.1).
 pub fn explain(
+    rt: &impl Print,
     b: Book,
     positions: &[i64; SECTION_PLACES],
     failed: &[u64; SECTION_PLACES],
     fifth: Drawn,
     names: &[u8],
-) -> bool {
+) -> io::Result<()> {
     let filed = b.filed;
-    let mut more = row::words(
+    row::words(
+        rt,
         b"\nStep 5. What is drawn of the notices (000 is silent, ours; 01, Expiry, step 5)\nA short section's notices are drawn in filing order: its inside lots, then its outside lots; the\nterminated come off the end.\n",
-    );
+    )?;
     let mut k = 0;
     while k < NOTICE_PLACES {
         if filed <= k {
-            return more;
+            return Ok(());
         }
         let n = b.notices[k];
-        more = notice_row(n, k, positions, failed, fifth, names) & more;
+        notice_row(rt, n, k, positions, failed, fifth, names)?;
         k += 1;
     }
-    more
+    Ok(())
 }

@@ -4,27 +4,31 @@ use list_leaves::entries;
 use method_account::failing::Failed;
 use rules::book::{Book, Section};
 use rules::limits::SECTION_PLACES;
+use std::io;
+use std::io::Print;
 use value::signed;
 
 // The condition and the seller mark.
-fn marks(s: Section) -> bool {
+fn marks(rt: &impl Print, s: Section) -> io::Result<()> {
     let seller = s.seller;
     if s.met {
-        return row::words(b", condition met") & row::seller_mark(seller);
+        row::words(rt, b", condition met")?;
+        return row::seller_mark(rt, seller);
     }
-    row::words(b", condition not met") & row::seller_mark(seller)
+    row::words(rt, b", condition not met")?;
+    row::seller_mark(rt, seller)
 }
 
 // A reason that holds (01, Expiry, 1.1).
-fn reason(holds: bool, text: &[u8]) -> bool {
+fn reason(rt: &impl Print, holds: bool, text: &[u8]) -> io::Result<()> {
     if holds {
-        return row::words(text);
+        return row::words(rt, text);
     }
-    true
+    Ok(())
 }
 
 // Every reason that makes a section fail, or that it is sound (01, Expiry, 1.1; 000, 2.1).
-fn verdict(s: Section, noticed: u64, failed: u64) -> bool {
+fn verdict(rt: &impl Print, s: Section, noticed: u64, failed: u64) -> io::Result<()> {
     let position = s.position.0;
     let own = signed::size(position);
     let short = position < 0;
@@ -32,22 +36,31 @@ fn verdict(s: Section, noticed: u64, failed: u64) -> bool {
     let unmarked = short & !s.seller;
     let unequal = short & (noticed != own);
     if !(unmet | unmarked | unequal) {
-        return row::words(b"    sound\n");
+        return row::words(rt, b"    sound\n");
     }
-    let reasons = reason(unmet, b"    fails: its condition is not met\n")
-        & reason(
-            unmarked,
-            b"    fails: it is short without the seller mark\n",
-        )
-        & reason(
-            unequal,
-            b"    fails: it is short and its notices do not sum to its lots (ours)\n",
-        );
-    reasons & row::say(&[], b"    its # lots are terminated\n", &[failed])
+    reason(rt, unmet, b"    fails: its condition is not met\n")?;
+    reason(
+        rt,
+        unmarked,
+        b"    fails: it is short without the seller mark\n",
+    )?;
+    reason(
+        rt,
+        unequal,
+        b"    fails: it is short and its notices do not sum to its lots (ours)\n",
+    )?;
+    row::say(rt, &[], b"    its # lots are terminated\n", &[failed])
 }
 
 // A section's row.
-fn section(s: Section, i: usize, noticed: u64, failed: u64, names: &[u8]) -> bool {
+fn section(
+    rt: &impl Print,
+    s: Section,
+    i: usize,
+    noticed: u64,
+    failed: u64,
+    names: &[u8],
+) -> io::Result<()> {
     let position = s.position.0;
     let numbers = [
         i as u64,
@@ -56,26 +69,36 @@ fn section(s: Section, i: usize, noticed: u64, failed: u64, names: &[u8]) -> boo
         signed::size(position),
         noticed,
     ];
-    let text = row::say(names, b"@ code #, position ~#, lots in notices #", &numbers);
-    text & marks(s) & row::words(b"\n") & verdict(s, noticed, failed)
+    row::say(
+        rt,
+        names,
+        b"@ code #, position ~#, lots in notices #",
+        &numbers,
+    )?;
+    marks(rt, s)?;
+    row::words(rt, b"\n")?;
+    verdict(rt, s, noticed, failed)
 }
 
 // Every section held (01, Expiry, 1.1 and 1.2).
-pub fn explain(b: Book, first: Failed, names: &[u8]) -> bool {
+pub fn explain(rt: &impl Print, b: Book, first: Failed, names: &[u8]) -> io::Result<()> {
     let held = b.held;
     let noticed = first.noticed;
     let failed = first.failed;
-    let mut more = row::words(b"\nStep 1. Which sections fail (000, 2.1; 01, Expiry, step 1)\n");
+    row::words(
+        rt,
+        b"\nStep 1. Which sections fail (000, 2.1; 01, Expiry, step 1)\n",
+    )?;
     let mut i = 0;
     while i < SECTION_PLACES {
         if held <= i {
-            return more;
+            return Ok(());
         }
         let s = b.sections[i];
         let filed = entries::nth(&noticed, i);
         let lots = entries::nth(&failed, i);
-        more = section(s, i, filed, lots, names) & more;
+        section(rt, s, i, filed, lots, names)?;
         i += 1;
     }
-    more
+    Ok(())
 }

@@ -5,10 +5,19 @@ use list_leaves::{changed, entries};
 use method_account::across::Across;
 use method_giving::chosen;
 use rules::limits::{SECTION_PLACES, SETTLEMENT_CODES};
+use std::io;
+use std::io::Print;
 use value::signed;
 
 // Whether a code's sound net lets it give, and how much (01, Expiry, 3.2; 000, 2.3).
-fn code(c: u8, net: i64, d: i64, may: &mut [u64], caps: &mut [u64]) -> bool {
+fn code(
+    rt: &impl Print,
+    c: u8,
+    net: i64,
+    d: i64,
+    may: &mut [u64],
+    caps: &mut [u64],
+) -> io::Result<()> {
     let size = signed::size(net);
     let numbers = [row::minus(net), size, size];
     if chosen::opposed(net, d) {
@@ -16,12 +25,14 @@ fn code(c: u8, net: i64, d: i64, may: &mut [u64], caps: &mut [u64]) -> bool {
         changed::raise(may, place, size);
         changed::raise(caps, place, size);
         return row::say(
+            rt,
             &[],
             b"    the sound net is ~#, opposite to D: it may give #\n",
             &numbers,
         );
     }
     row::say(
+        rt,
         &[],
         b"    the sound net is ~#, not opposite to D: it gives nothing\n",
         &numbers,
@@ -30,6 +41,7 @@ fn code(c: u8, net: i64, d: i64, may: &mut [u64], caps: &mut [u64]) -> bool {
 
 // The sections of a code with sound lots left, and its net of them; `may` and `caps` get what it may give (01, Expiry, 3.2).
 fn code_rows(
+    rt: &impl Print,
     codes: &[u8; SECTION_PLACES],
     positions: &[i64; SECTION_PLACES],
     left: &[u64; SECTION_PLACES],
@@ -39,17 +51,18 @@ fn code_rows(
     may: &mut [u64; SETTLEMENT_CODES],
     caps: &mut [u64; SETTLEMENT_CODES],
     names: &[u8],
-) -> bool {
+) -> io::Result<()> {
     if !codes::some_in(codes, left, c) {
-        return true;
+        return Ok(());
     }
-    row::say(&[], b"code #, sound lots left\n", &[c as u64])
-        & codes::rows(codes, positions, left, c, names)
-        & code(c, net, d, may, caps)
+    row::say(rt, &[], b"code #, sound lots left\n", &[c as u64])?;
+    codes::rows(rt, codes, positions, left, c, names)?;
+    code(rt, c, net, d, may, caps)
 }
 
 // All codes, by number; `may` and `caps` are noughts at first (01, Expiry, 3.2).
 fn net_rows(
+    rt: &impl Print,
     codes: &[u8; SECTION_PLACES],
     positions: &[i64; SECTION_PLACES],
     left: &[u64; SECTION_PLACES],
@@ -58,20 +71,20 @@ fn net_rows(
     may: &mut [u64; SETTLEMENT_CODES],
     caps: &mut [u64; SETTLEMENT_CODES],
     names: &[u8],
-) -> bool {
-    let mut more = true;
+) -> io::Result<()> {
     let mut c = 0;
     while c < SETTLEMENT_CODES {
         let net = nets[c];
         let number = c as u8;
-        more = code_rows(codes, positions, left, number, net, d, may, caps, names) & more;
+        code_rows(rt, codes, positions, left, number, net, d, may, caps, names)?;
         c += 1;
     }
-    more
+    Ok(())
 }
 
 // What a section has, gives, and leaves of D and of the net of its code (01, Expiry, 3.3; 000, 2.3.1).
 fn giver(
+    rt: &impl Print,
     i: usize,
     c: u8,
     mine: u64,
@@ -81,9 +94,9 @@ fn giver(
     unclosed: &mut [u64],
     caps: &mut [u64],
     names: &[u8],
-) -> bool {
+) -> io::Result<()> {
     if mine == 0 {
-        return true;
+        return Ok(());
     }
     let left = changed::lower(unclosed, 0, gives);
     let net = changed::lower(caps, c as usize, gives);
@@ -97,12 +110,13 @@ fn giver(
         net,
         c as u64,
     ];
-    giving::tie(mine, earlier, i, names)
-        & row::say(
-            names,
-            b"    @ of code # has # lots and gives #; ~# left of D, # of the net of code #\n",
-            &numbers,
-        )
+    giving::tie(rt, mine, earlier, i, names)?;
+    row::say(
+        rt,
+        names,
+        b"    @ of code # has # lots and gives #; ~# left of D, # of the net of code #\n",
+        &numbers,
+    )
 }
 
 // What a section has to give where its code may give anything.
@@ -112,6 +126,7 @@ fn offered(mine: u64, cap: u64) -> u64 {
 
 // Who gives towards D, in the order over all codes (01, Expiry, 3.3).
 fn givers(
+    rt: &impl Print,
     codes: &[u8; SECTION_PLACES],
     lots: &[u64; SECTION_PLACES],
     order: &[usize; SECTION_PLACES],
@@ -122,8 +137,7 @@ fn givers(
     unclosed: &mut [u64; 1],
     caps: &mut [u64; SETTLEMENT_CODES],
     names: &[u8],
-) -> bool {
-    let mut more = true;
+) -> io::Result<()> {
     let mut earlier = 0;
     let mut k = 0;
     while k < held {
@@ -131,22 +145,23 @@ fn givers(
         let c = entries::nth_byte(codes, i);
         let mine = offered(entries::nth(lots, i), entries::nth(may, c as usize));
         let gives = entries::nth(given, i);
-        more = giver(i, c, mine, gives, d, earlier, unclosed, caps, names) & more;
+        giver(rt, i, c, mine, gives, d, earlier, unclosed, caps, names)?;
         earlier = giving::latest(mine, earlier);
         k += 1;
     }
-    more
+    Ok(())
 }
 
 // D, the codes that may give, and who gives (01, Expiry, 3.1; 01, Expiry, 3.2; 01, Expiry, 3.3).
 pub fn explain(
+    rt: &impl Print,
     codes: &[u8; SECTION_PLACES],
     positions: &[i64; SECTION_PLACES],
     left: &[u64; SECTION_PLACES],
     held: usize,
     third: Across,
     names: &[u8],
-) -> bool {
+) -> io::Result<()> {
     let d = third.d;
     let nets = third.sound;
     let giving = third.giving;
@@ -154,29 +169,39 @@ pub fn explain(
     let order = giving.order;
     let given = giving.given;
     let size = signed::size(d);
-    let head = row::words(
+    row::words(
+        rt,
         b"\nStep 3. What is left is closed over all codes together (000, 2.3; 01, Expiry, step 3)\nD is what is left of all D(c), with sign. Codes whose sound net after step 2 is opposite to D give,\neach at most its net: their sections on the side of that net, over all such codes together,\nsmallest first, then lower section code. Codes with no sound lots left are not shown.\n",
-    ) & row::say(&[], b"D = ~#\n", &[row::minus(d), size]);
+    )?;
+    row::say(rt, &[], b"D = ~#\n", &[row::minus(d), size])?;
     if size == 0 {
-        return head & row::words(b"nothing is to be closed\n");
+        return row::words(rt, b"nothing is to be closed\n");
     }
     let mut unclosed = [size];
     let mut may = [0; SETTLEMENT_CODES];
     let mut caps = [0; SETTLEMENT_CODES];
-    let rows = net_rows(codes, positions, left, nets, d, &mut may, &mut caps, names);
-    let gave = row::words(b"who gives\n")
-        & givers(
-            codes,
-            &lots,
-            &order,
-            &given,
-            held,
-            d,
-            &may,
-            &mut unclosed,
-            &mut caps,
-            names,
-        );
+    net_rows(
+        rt, codes, positions, left, nets, d, &mut may, &mut caps, names,
+    )?;
+    row::words(rt, b"who gives\n")?;
+    givers(
+        rt,
+        codes,
+        &lots,
+        &order,
+        &given,
+        held,
+        d,
+        &may,
+        &mut unclosed,
+        &mut caps,
+        names,
+    )?;
     let rest = unclosed[0];
-    head & rows & gave & row::say(&[], b"left of D: ~#\n", &[row::minus_left(d, rest), rest])
+    row::say(
+        rt,
+        &[],
+        b"left of D: ~#\n",
+        &[row::minus_left(d, rest), rest],
+    )
 }

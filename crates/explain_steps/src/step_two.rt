@@ -4,10 +4,13 @@ use explain_row::row;
 use list_leaves::entries;
 use method_account::in_codes::InCodes;
 use rules::limits::{SECTION_PLACES, SETTLEMENT_CODES};
+use std::io;
+use std::io::Print;
 use value::signed;
 
 // A settlement code in which lots fail: D(c), who gives towards it, and what is left of it (01, Expiry, 2.1; 01, Expiry, 2.2).
 fn code(
+    rt: &impl Print,
     codes: &[u8; SECTION_PLACES],
     positions: &[i64; SECTION_PLACES],
     failed: &[u64; SECTION_PLACES],
@@ -19,50 +22,54 @@ fn code(
     c: u8,
     left: &mut [u64; SETTLEMENT_CODES],
     names: &[u8],
-) -> bool {
+) -> io::Result<()> {
     if !codes::some_in(codes, failed, c) {
-        return true;
+        return Ok(());
     }
-    let head = row::say(&[], b"code #, what fails\n", &[c as u64]);
-    let failing = codes::rows(codes, positions, failed, c, names);
+    row::say(rt, &[], b"code #, what fails\n", &[c as u64])?;
+    codes::rows(rt, codes, positions, failed, c, names)?;
     let numbers = [c as u64, row::minus(gap), signed::size(gap)];
-    let sum = row::say(&[], b"    D(#) = ~#\n", &numbers);
-    let giving = giving::givers(codes, lots, order, given, held, c, gap, left, names);
+    row::say(rt, &[], b"    D(#) = ~#\n", &numbers)?;
+    giving::givers(rt, codes, lots, order, given, held, c, gap, left, names)?;
     let rest = entries::nth(left, c as usize);
-    let end = row::say(
+    row::say(
+        rt,
         &[],
         b"    left of D(#): ~#\n",
         &[c as u64, row::minus_left(gap, rest), rest],
-    );
-    head & failing & sum & giving & end
+    )?;
+    Ok(())
 }
 
 // All codes, by number (01, Expiry, 2.1; 01, Expiry, 2.2).
 pub fn explain(
+    rt: &impl Print,
     codes: &[u8; SECTION_PLACES],
     positions: &[i64; SECTION_PLACES],
     failed: &[u64; SECTION_PLACES],
     held: usize,
     second: InCodes,
     names: &[u8],
-) -> bool {
+) -> io::Result<()> {
     let gaps = second.gaps;
     let giving = second.giving;
     let lots = giving.lots;
     let order = giving.order;
     let given = giving.given;
     let mut left = codes::sizes(gaps);
-    let mut more = row::words(
+    row::words(
+        rt,
         b"\nStep 2. Each settlement code closes what fails in it (000, 2.2; 01, Expiry, step 2)\nD(c) is the sum of the failing positions of code c. Sound sections on the other side give, smallest\nfirst, then lower section code. Codes where no lots fail are not shown.\n",
-    );
+    )?;
     let mut c = 0;
     while c < SETTLEMENT_CODES {
         let gap = gaps[c];
         let number = c as u8;
-        more = code(
-            codes, positions, failed, gap, &lots, &order, &given, held, number, &mut left, names,
-        ) & more;
+        code(
+            rt, codes, positions, failed, gap, &lots, &order, &given, held, number, &mut left,
+            names,
+        )?;
         c += 1;
     }
-    more
+    Ok(())
 }
