@@ -1,5 +1,5 @@
 -- How much a template comes to at most.
-use Rattle.numbers.proofs.Words.{ℕ, zero, suc, ◌+◌, ◌*◌, ◌/◌, ◌%◌, ◌≤◌, ◌<◌, arith, ◌≡◌, refl, Bool, true, false, List, [], ◌∷◌, ◌++◌, cond, eqb, ⊎_elim, drop, length, length-append, entry}
+use Rattle.numbers.proofs.Words.{ℕ, zero, suc, ◌+◌, ◌*◌, ◌/◌, ◌%◌, ◌≤◌, ◌<◌, arith, Bool, true, false, List, [], ◌∷◌, cond, eqb, ⊎_elim, drop, length, length-append, entry}
 use Rattle.numbers.proofs.Tests.{below_or_not}
 use Rattle.numbers.specs.Text.{digits_from, decimal}
 use Rattle.listing.proofs.Laws.Digits.{digits_more, digits_last}

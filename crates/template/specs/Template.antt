@@ -1,5 +1,6 @@
 -- A text with places for numbers, for signs and for section codes.
-use Rattle.rules.specs.Words.{ℕ, ◌*◌, ◌/◌, ◌%◌, Bool, not, ◌||◌, cond, List, [], ◌∷◌, ◌++◌, flat_map, ltb, eqb, drop, ◌and◌, counted, entry, decimal}
+use Rattle.std.specs.Prelude.{ℕ, ◌*◌, ◌/◌, ◌%◌, Bool, not, ◌||◌, cond, List, [], ◌∷◌, ◌++◌, ltb, eqb, drop}
+use Rattle.rules.specs.Words.{flat_map, ◌and◌, counted, entry, decimal}
 use Rattle.io.specs.Digits.{hex_digit_ascii}
 
 -- a byte of a section code: a visible character is itself, but for the backslash; any other byte is \x and its two digits in base 16

@@ -1,5 +1,5 @@
 // A section code as text: in a damaged file it may be any bytes, and the text stays text.
-ghost use Rattle.rules.specs.Words.{◌≡◌, ◌+◌, ◌*◌, ◌≤◌, ◌<◌, min, length};
+ghost use Rattle.std.specs.Prelude.{◌≡◌, ◌+◌, ◌*◌, ◌≤◌, ◌<◌, min, length};
 ghost use Rattle.io.specs.Digits.{hex_digit_ascii};
 ghost use Rattle.listing.specs.Laid.{Laid};
 ghost use Rattle.template.specs.Template.{visible, byte_text, first_code, code_text};

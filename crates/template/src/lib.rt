@@ -1,5 +1,7 @@
 // A template and what is filled in, written into a buffer from a place on. Each function answers the next place.
-ghost use Rattle.rules.specs.Words.{◌≡◌, ◌+◌, ◌≤◌, ◌<◌, cond, length};
+#![tactic(auto)]
+
+ghost use Rattle.std.specs.Prelude.{◌≡◌, ◌+◌, ◌≤◌, ◌<◌, cond, length};
 ghost use Rattle.listing.specs.Laid.{Laid};
 ghost use Rattle.template.specs.Template.{sign_text, takes_number, piece_text, filled};
 
