@@ -1,5 +1,6 @@
 -- Amounts as the explanation works them out: within what any contract comes to, the number itself, and 0 beyond.
-use Rattle.rules.specs.Words.{ℕ, cond, ℤ, pos, ◌-ℤ◌, lt_z, within}
+use Rattle.std.specs.Prelude.{ℕ, cond, ℤ, pos, ◌-ℤ◌}
+use Rattle.rules.specs.Words.{lt_z, within}
 
 -- 1 where a number is below 0
 abbrev pub sign_of : ℤ → ℕ

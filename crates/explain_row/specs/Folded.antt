@@ -1,5 +1,6 @@
 -- Rows that end at blanks.
-use Rattle.rules.specs.Words.{ℕ, ◌≡◌, false, List, eqb, length, entry}
+use Rattle.std.specs.Prelude.{ℕ, ◌≡◌, false, List, eqb, length}
+use Rattle.rules.specs.Words.{entry}
 
 -- nothing is cut and nothing changes but blanks
 pub record Folded (was now : List ℕ) : Type 0 where

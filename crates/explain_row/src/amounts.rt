@@ -1,5 +1,5 @@
 // Lots and their values, for every number that there is: an amount beyond any of a contract's counts as 0.
-ghost use Rattle.rules.specs.Words.{◌≡◌};
+ghost use Rattle.std.specs.Prelude.{◌≡◌};
 ghost use Rattle.explain_row.specs.Amounts.{less_of};
 
 use rules::units::{Kopecks, Lots};

@@ -1,5 +1,5 @@
 // A quotient rounded to a whole number, as the desk works it out (01, Value, 4; 02, c, 2).
-ghost use Rattle.rules.specs.Words.{◌≡◌, cond, leb};
+ghost use Rattle.std.specs.Prelude.{◌≡◌, cond, leb};
 ghost use Rattle.rules.specs.Value;
 
 use crate::row;

@@ -1,5 +1,5 @@
 // A row of the explanation: a template filled with numbers and section codes, at most 100 columns, written out.
-ghost use Rattle.rules.specs.Words.{◌≡◌, ◌+◌, ◌≤◌, ◌<◌, cond, eqb, length};
+ghost use Rattle.std.specs.Prelude.{◌≡◌, ◌+◌, ◌≤◌, ◌<◌, cond, eqb, length};
 ghost use Rattle.explain_row.specs.Amounts.{sign_of};
 ghost use Rattle.explain_row.specs.Folded.{Folded};
 
