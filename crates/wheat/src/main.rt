@@ -1,4 +1,6 @@
 // Reads the event file on standard input and prints its listing (01, Program, 1 and 2 and 3).
+#![tactic(auto)]
+
 use program_io::INPUT_BYTES;
 use std::io;
 
