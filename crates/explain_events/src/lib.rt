@@ -1,4 +1,6 @@
 // The events of a file in words, accepted and refused.
+#![tactic(auto)]
+
 pub mod events;
 pub mod refusal;
 pub mod session;

@@ -1,5 +1,5 @@
 // A file, or an event, that does not read: what of its bytes is wrong.
-ghost use Rattle.rules.specs.Words.{◌≤◌};
+ghost use Rattle.std.specs.Prelude.{◌≤◌};
 
 use explain_row::row;
 use file_operand::bytes;
