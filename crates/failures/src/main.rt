@@ -1,5 +1,7 @@
 // Reads the event file on standard input and prints in how many patterns of failures the section asked is delivered in full, in part and not at all; the arguments are that section
 // and the sections named (02, n, 1 and 2).
+#![tactic(auto)]
+
 ghost use Rattle.std.specs.Prelude.{◌≡◌, ◌≤◌, ◌<◌, true, length};
 ghost use Rattle.rules.specs.Book.{good};
 ghost use Rattle.rules.specs.Failures.{failures_printed};
