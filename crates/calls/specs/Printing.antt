@@ -1,5 +1,5 @@
 -- Where the program stands in what it prints of a file.
-use Rattle.rules.specs.Words.{ℕ, ◌-◌, ◌≤◌, ◌≡◌, true, false, List, ◌++◌}
+use Rattle.std.specs.Prelude.{ℕ, ◌-◌, ◌≤◌, ◌≡◌, true, false, List, ◌++◌}
 use Rattle.rules.specs.declared.book.{Book.Book}
 use Rattle.rules.specs.Book.{good}
 use Rattle.rules.specs.File.{events_in, misshapen}

@@ -1,5 +1,7 @@
 // Reads the event file on standard input, gives its events to the public calls, refused ones among them, and prints what each answers (01, Calls, 3; 02, b, 2 and 3).
-ghost use Rattle.rules.specs.Words.{◌≡◌, length};
+#![tactic(auto)]
+
+ghost use Rattle.std.specs.Prelude.{◌≡◌, length};
 ghost use Rattle.calls.specs.Printing.{Printing};
 
 use program_io::INPUT_BYTES;
@@ -11,7 +13,13 @@ use std::io;
 const TEXT_BYTES: usize = 34_200;
 
 // The events one after the other, each with the book handed out just before. What a step prints is written out before the next one; after a failure nothing more is.
-fn print_events(rt: &impl Print, file: &[u8], n: usize, start: Book, out: &mut [u8]) -> io::Result<()>
+fn print_events(
+    rt: &impl Print,
+    file: &[u8],
+    n: usize,
+    start: Book,
+    out: &mut [u8],
+) -> io::Result<()>
     requires { Printing file.now n 0 start × (length out.old ≡ 34_200) }
 {
     let mut book = start;
