@@ -14,7 +14,7 @@ use method_steps::across;
 use rules::limits::{SECTION_PLACES, SETTLEMENT_CODES};
 
 // D, the net of each settlement code's sound lots, what the sections give towards D, and what is kept.
-#[derive(Drop)]
+#[derive(Clone, Copy)]
 pub struct Across {
     pub d: i64,
     pub sound: [i64; SETTLEMENT_CODES],

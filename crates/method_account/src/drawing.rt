@@ -9,7 +9,7 @@ use method_register::lots;
 use rules::limits::NOTICE_PLACES;
 
 // What is drawn inside of each notice, and what is drawn of it outside.
-#[derive(Drop)]
+#[derive(Clone, Copy)]
 pub struct Drawn {
     pub inside: [u64; NOTICE_PLACES],
     pub beyond: [u64; NOTICE_PLACES],

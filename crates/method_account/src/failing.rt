@@ -10,7 +10,7 @@ use rules::book::Book;
 use rules::limits::SECTION_PLACES;
 
 // The lots of each section's notices, and the lots of the failing sections, 0 for the sound.
-#[derive(Drop)]
+#[derive(Clone, Copy)]
 pub struct Failed {
     pub noticed: [u64; SECTION_PLACES],
     pub failed: [u64; SECTION_PLACES],

@@ -12,7 +12,7 @@ use method_steps::{across, in_codes};
 use rules::limits::SECTION_PLACES;
 
 // The lots that each section has to give in a step, 0 for all that give nothing there; all sections in the order of the step; what each gives.
-#[derive(Drop)]
+#[derive(Clone, Copy)]
 pub struct Giving {
     pub lots: [u64; SECTION_PLACES],
     pub order: [usize; SECTION_PLACES],

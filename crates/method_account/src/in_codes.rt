@@ -12,7 +12,7 @@ use method_holding::nets;
 use rules::limits::{SECTION_PLACES, SETTLEMENT_CODES};
 
 // D(c) of each settlement code, what the sound sections give towards it, and what is left of them.
-#[derive(Drop)]
+#[derive(Clone, Copy)]
 pub struct InCodes {
     pub gaps: [i64; SETTLEMENT_CODES],
     pub giving: Giving,

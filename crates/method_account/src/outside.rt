@@ -12,7 +12,7 @@ use method_holding::nets;
 use rules::limits::{SECTION_PLACES, SETTLEMENT_CODES};
 
 // The net of each settlement code's lots kept, what of them goes outside, and what stays inside.
-#[derive(Drop)]
+#[derive(Clone, Copy)]
 pub struct Outside {
     pub nets: [i64; SETTLEMENT_CODES],
     pub giving: Giving,
