@@ -1,5 +1,5 @@
 -- Steps 1 to 5 of a book's expiry.
-use Rattle.rules.specs.Words.{◌≡◌, take}
+use Rattle.std.specs.Prelude.{◌≡◌, take}
 use Rattle.rules.specs.declared.book.{Book.Book}
 use Rattle.rules.specs.Book.{held_sections, filed_notices}
 use Rattle.rules.specs.Expiry.Failing.{failing}

@@ -1,5 +1,6 @@
 -- Who may give in a step, in which order, and what each gives.
-use Rattle.rules.specs.Words.{ℕ, ◌≡◌, Bool, List, take, ℤ, entry_ℤ}
+use Rattle.std.specs.Prelude.{ℕ, ◌≡◌, Bool, List, take, ℤ}
+use Rattle.rules.specs.Words.{entry_ℤ}
 use Rattle.rules.specs.declared.book.{Section.Section}
 use Rattle.rules.specs.Book.{position_of}
 use Rattle.rules.specs.Expiry.{opposed, chosen, lower_section_code}

@@ -1,5 +1,6 @@
 -- Step 6 pass by pass: the passes of a book's expiry, the lists that they read, and what each comes to.
-use Rattle.rules.specs.Words.{ℕ, ◌≡◌, ◌≤◌, true, List, take, ℤ, less}
+use Rattle.std.specs.Prelude.{ℕ, ◌≡◌, ◌≤◌, true, List, take, ℤ}
+use Rattle.rules.specs.Words.{less}
 use Rattle.rules.specs.declared.book.{Book.Book}
 use Rattle.rules.specs.Book.{good, held_sections, filed_notices}
 use Rattle.rules.specs.Expiry.{Outside.outside, Outside.inside, Drawing.drawn}

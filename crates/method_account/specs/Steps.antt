@@ -1,5 +1,6 @@
 -- Each step's numbers, by the definitions; lists stand in the fronts of arrays.
-use Rattle.rules.specs.Words.{ℕ, ◌≡◌, true, false, List, map, take, length, ℤ, listed, less}
+use Rattle.std.specs.Prelude.{ℕ, ◌≡◌, true, false, List, map, take, length, ℤ}
+use Rattle.rules.specs.Words.{listed, less}
 use Rattle.rules.specs.declared.book.{Book.Book, Section.Section, Notice.Notice}
 use Rattle.rules.specs.Book.{settlement_codes, held_sections, filed_notices}
 use Rattle.rules.specs.Expiry.{size, net_of_code}

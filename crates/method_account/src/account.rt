@@ -1,5 +1,5 @@
 // Steps 1 to 5 one after the other.
-ghost use Rattle.rules.specs.Words.{◌≡◌, true};
+ghost use Rattle.std.specs.Prelude.{◌≡◌, true};
 ghost use Rattle.rules.specs.Book.{good, filed_notices};
 ghost use Rattle.rules.specs.Expiry.Passes.{elevators_in};
 ghost use Rattle.method_delivery.specs.Lent.{ColumnsOf};

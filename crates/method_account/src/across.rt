@@ -1,5 +1,5 @@
 // Step 3: what is left open is closed over all settlement codes together.
-ghost use Rattle.rules.specs.Words.{ℕ, List, take, length};
+ghost use Rattle.std.specs.Prelude.{ℕ, List, take, length};
 ghost use Rattle.rules.specs.declared.book.Section.{Section};
 ghost use Rattle.method_laws.specs.Columns.{Columns, Small};
 ghost use Rattle.method_steps.specs.Held.{Held};

@@ -1,5 +1,5 @@
 // Step 5: what is drawn of the notices.
-ghost use Rattle.rules.specs.Words.{List, ◌≡◌, ◌≤◌, take, length};
+ghost use Rattle.std.specs.Prelude.{List, ◌≡◌, ◌≤◌, take, length};
 ghost use Rattle.rules.specs.declared.book.{Section.Section, Notice.Notice};
 ghost use Rattle.method_laws.specs.Columns.{Small};
 ghost use Rattle.method_register.specs.Passes.{Noticed, Drawing};

@@ -1,5 +1,5 @@
 // Step 1: who fails.
-ghost use Rattle.rules.specs.Words.{◌≡◌, true, take};
+ghost use Rattle.std.specs.Prelude.{◌≡◌, true, take};
 ghost use Rattle.rules.specs.Book.{good, filed_notices};
 ghost use Rattle.rules.specs.Expiry.Passes.{sellers_in};
 ghost use Rattle.method_laws.specs.Columns.{notice_lots_in, Small};

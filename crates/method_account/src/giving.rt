@@ -1,5 +1,5 @@
 // Who may give in a step, in which order, and what each gives.
-ghost use Rattle.rules.specs.Words.{List, ◌≡◌, false, take, length};
+ghost use Rattle.std.specs.Prelude.{List, ◌≡◌, false, take, length};
 ghost use Rattle.rules.specs.declared.book.Section.{Section};
 ghost use Rattle.rules.specs.Expiry.Across;
 ghost use Rattle.method_laws.specs.Columns.{Columns, AtMost, NetsSmall, Small};

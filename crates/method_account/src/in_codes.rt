@@ -1,5 +1,5 @@
 // Step 2: each settlement code is closed by itself.
-ghost use Rattle.rules.specs.Words.{List, length};
+ghost use Rattle.std.specs.Prelude.{List, length};
 ghost use Rattle.rules.specs.declared.book.Section.{Section};
 ghost use Rattle.method_laws.specs.Columns.{Columns, Small};
 ghost use Rattle.method_steps.specs.Held.{Held};

@@ -1,4 +1,6 @@
 // Steps 1 to 5 of an expiry with every number in between, for those who ask how a register came about.
+#![tactic(auto)]
+
 pub mod account;
 pub mod across;
 pub mod drawing;

@@ -1,5 +1,5 @@
 // Step 4: what goes outside, and what stays inside.
-ghost use Rattle.rules.specs.Words.{List, take, length};
+ghost use Rattle.std.specs.Prelude.{List, take, length};
 ghost use Rattle.rules.specs.declared.book.Section.{Section};
 ghost use Rattle.method_laws.specs.Columns.{Columns, Small};
 ghost use Rattle.method_steps.specs.Held.{Held};

@@ -1,5 +1,5 @@
 // Step 6 pass by pass: what a pass takes, and what its stages form.
-ghost use Rattle.rules.specs.Words.{◌<◌};
+ghost use Rattle.std.specs.Prelude.{◌<◌};
 ghost use Rattle.rules.specs.declared.book.Book.{Book};
 ghost use Rattle.method_account.specs.Passes.{inside_of, outside_of, Near, Far, Behind, PassOf};
 
