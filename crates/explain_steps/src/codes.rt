@@ -1,5 +1,6 @@
 // Lots by settlement code.
-ghost use Rattle.rules.specs.Words.{◌≡◌, cond, eqb, entry, map, nat_abs};
+ghost use Rattle.std.specs.Prelude.{◌≡◌, cond, eqb, map, nat_abs};
+ghost use Rattle.rules.specs.Words.{entry};
 
 use explain_row::row;
 use list_leaves::entries;

@@ -1,5 +1,5 @@
 // The steps of an expiry one after the other.
-ghost use Rattle.rules.specs.Words.{◌≡◌, true};
+ghost use Rattle.std.specs.Prelude.{◌≡◌, true};
 ghost use Rattle.rules.specs.Book.{good};
 ghost use Rattle.method_delivery.specs.Lent.{ColumnsOf};
 ghost use Rattle.method_account.specs.Passes.{Behind, Near};

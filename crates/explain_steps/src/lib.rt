@@ -1,4 +1,6 @@
 // The steps of an expiry in words.
+#![tactic(auto)]
+
 mod codes;
 pub mod expiry;
 mod giving;

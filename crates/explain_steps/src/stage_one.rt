@@ -1,5 +1,6 @@
 // Stage one of a pass in words: buyers, elevators, and the pairs that they form.
-ghost use Rattle.rules.specs.Words.{◌≡◌, entry};
+ghost use Rattle.std.specs.Prelude.{◌≡◌};
+ghost use Rattle.rules.specs.Words.{entry};
 
 use explain_row::row;
 use list_leaves::{changed, entries, found};

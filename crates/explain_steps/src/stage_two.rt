@@ -1,5 +1,6 @@
 // Stage two of a pass in words: pairs, notices, and the lines that they form.
-ghost use Rattle.rules.specs.Words.{◌≡◌, entry};
+ghost use Rattle.std.specs.Prelude.{◌≡◌};
+ghost use Rattle.rules.specs.Words.{entry};
 
 use explain_row::row;
 use list_leaves::{changed, entries, found};

@@ -37,9 +37,8 @@ fn pass(
 }
 
 // Whether a pass forms anything (01, Expiry, 6.2).
-fn forms(p: Pass) -> bool {
-    let stages = p.stages;
-    let pairs = stages.pairs;
+fn forms(p: &Pass) -> bool {
+    let pairs = p.stages.pairs;
     0 < pairs.count
 }
 
@@ -53,7 +52,7 @@ pub fn inside(
     sold: &mut [u64; NOTICE_PLACES],
     names: &[u8],
 ) -> io::Result<()> {
-    if !forms(p) {
+    if !forms(&p) {
         return Ok(());
     }
     row::say(rt, &[], b"Inside pass of code #\n", &[c as u64])?;
@@ -69,7 +68,7 @@ pub fn outside(
     sold: &mut [u64; NOTICE_PLACES],
     names: &[u8],
 ) -> io::Result<()> {
-    if !forms(p) {
+    if !forms(&p) {
         return row::words(rt, b"Outside pass: nothing is left to form\n");
     }
     row::words(rt, b"Outside pass\n")?;
