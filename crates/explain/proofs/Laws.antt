@@ -2,7 +2,6 @@
 use Rattle.numbers.proofs.Words.{arith, ◌≡◌, sym, ap, ◌∙◌, true, not-false}
 use Rattle.rules.specs.declared.book.{Book.Book, ExpiryAnswer.ExpiryAnswer}
 use Rattle.rules.specs.Book.{good}
-use Rattle.rules.specs.Calls.{first}
 use Rattle.rules.specs.Expiry.Call.{Lists, expiry_refusals, expiry_answer}
 use Rattle.book_laws.proofs.Answers.{first_none}
 
