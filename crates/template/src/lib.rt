@@ -27,6 +27,7 @@ fn used_after(c: u8, used: usize) -> usize
 }
 
 // A minus sign, but for 0.
+#[tactic(auto, using(crate::proofs::Signs::sign_none, crate::proofs::Signs::sign_laid))]
 fn sign(n: u64, out: &mut [u8], at: usize) -> usize
     requires { at + length (sign_text n) ≤ length out.old }
     ensures { Laid out.old at (sign_text n) out.new result }
