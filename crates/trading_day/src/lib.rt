@@ -23,6 +23,7 @@ fn closed_good(closed: &[u32]) -> bool
 }
 
 // The number of the refusal, 0 where there is none (02, e, 5).
+#[tactic(auto, unfolding(rules::specs::Calls::first, rules::specs::LastTradingDay::last_day_number))]
 fn refusal(year: u32, month: u32, closed: &[u32]) -> u8
     ensures { result ≡ LastTradingDay.last_day_number year month closed.now }
 {
