@@ -1,6 +1,7 @@
 -- The first refusal of a list, and the answer under a number.
 use Rattle.numbers.proofs.Words.{ℕ, ◌≡◌, refl, sym, Bool, true, false, not, cond, List, [], ◌∷◌, ◌++◌, eqb, ne_eqb, eqb-false, not-true, every}
-use Rattle.rules.specs.declared.book.{Answer.Answer, Book.Book}
+use Rattle.rules.specs.declared.book.{Book.Book}
+use Rattle.rules.specs.Answers.{Answer}
 use Rattle.numbers.proofs.Tests.{both}
 use Rattle.rules.specs.Book.{good}
 use Rattle.rules.specs.Calls.{Refusal, ◌if◌, first, handed_out, answer}

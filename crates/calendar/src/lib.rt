@@ -16,6 +16,7 @@ const DAYS: [[u32; MONTHS]; 2] = [
 ];
 
 // Every fourth year, not the hundredth, but the four-hundredth (02, d, 2).
+#[tactic(auto, unfolding(rules::specs::Calendar::leap))]
 fn leap(year: u32) -> bool
     ensures { result ≡ Calendar.leap year }
 {
@@ -33,22 +34,12 @@ fn row_of(year: u32) -> [u32; MONTHS]
     DAYS[row]
 }
 
-// How many numbers from 1 on come before n; there is none before 0.
-fn less_one(n: u32) -> u64
-    ensures { result ≡ n - 1 }
-{
-    if n == 0 {
-        return 0;
-    }
-    (n - 1) as u64
-}
-
 // The days of the years before one, without a walk over them: 365 for each, one more for each fourth, one less for each hundredth, one more for each
 // four-hundredth (02, d, 2).
 fn days_before_year(year: u32) -> u64
     ensures { result ≡ Calendar.days_before_year year }
 {
-    let years = less_one(year);
+    let years = u64::from(year.saturating_sub(1));
     let fourths = years / 4;
     let hundredths = years / 100;
     let four_hundredths = years / 400;
@@ -60,29 +51,26 @@ fn days_before_month(year: u32, month: u32) -> u64
     ensures { result ≡ Calendar.days_before_month year month }
 {
     let row = row_of(year);
-    let months = less_one(month) as usize;
-    let mut days = 0;
-    let mut i = 0;
-    while (i < MONTHS) & (i < months) {
-        days += row[i] as u64;
-        i += 1;
+    let months = (month.saturating_sub(1) as usize).min(MONTHS);
+    let first = &row[..months];
+    let mut before = 0;
+    for days in first {
+        before += u64::from(*days);
     }
-    days
+    before
 }
 
 // The number of a date (02, d, 2).
 fn day_number(date: Date) -> u64
     ensures { result ≡ Calendar.day_number date }
 {
-    let year = date.year;
-    let month = date.month;
-    let day = date.day;
-    let years = days_before_year(year);
-    let months = days_before_month(year, month);
-    years + months + less_one(day)
+    let years = days_before_year(date.year);
+    let months = days_before_month(date.year, date.month);
+    years + months + u64::from(date.day.saturating_sub(1))
 }
 
-// The weekday of a date, Monday 1 to Sunday 7 (02, d, 1 and 2).
+// The weekday of a date, Monday 1 to Sunday 7 (02, d, 1 and 2). It is a number and no enum: the clause, and the table of tenths, have numbers.
+#[tactic(auto, unfolding(rules::specs::Calendar::weekday))]
 pub fn weekday(date: Date) -> u8
     ensures { result ≡ Calendar.weekday date }
 {

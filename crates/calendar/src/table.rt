@@ -49,12 +49,11 @@ pub fn tenths() -> [[u8; MONTHS]; TENTHS_YEARS]
 pub fn in_thirty_years(year: u32, month: u32) -> bool
     ensures { result ≡ Calendar.in_thirty_years year month }
 {
-    let months = MONTHS as u32;
-    let in_years = (TENTHS_FROM <= year) & (year <= TENTHS_TO);
-    in_years & ((1 <= month) & (month <= months))
+    let in_years = (TENTHS_FROM..=TENTHS_TO).contains(&year);
+    in_years & (1..=MONTHS as u32).contains(&month)
 }
 
-// The table's entry by year and month, 0 where it has none (02, d, 1).
+// The table's entry by year and month, 0 where it has none (02, d, 1). It is no Option: the clause has the 0.
 pub fn tenth(year: u32, month: u32) -> u8
     ensures { result ≡ Calendar.tenth year month }
 {

@@ -1,9 +1,9 @@
--- The days of the months before one, added up in a walk over a year's row.
-use Rattle.numbers.proofs.Words.{ℕ, zero, suc, ◌+◌, ◌-◌, ◌*◌, ◌≤◌, ◌<◌, add-one, arith, ◌≡◌, refl, sym, ap, ap₂, ◌∙◌, Bool, true, false, ◌&&◌, List, ⊎_elim, ltb, lt-ltb, ltb-true, ltb-false, counted, entry, listed, total, gathered}
+-- The days of the months before one, added up over a year's row.
+use Rattle.numbers.proofs.Words.{ℕ, zero, suc, ◌+◌, ◌-◌, ◌*◌, min, ◌≤◌, ◌<◌, add-one, arith, ◌≡◌, refl, sym, ap, ◌∙◌, ⊎_elim, counted, entry, listed, total, gathered}
 use native.Mathlib.Nat.{add-suc}
 use Rattle.numbers.proofs.Sums.{naturals}
 use Rattle.numbers.proofs.Ranges.{sum_more, get_d_past}
-use Rattle.numbers.proofs.Tests.{both, below_or_not}
+use Rattle.numbers.proofs.Tests.{below_or_not}
 use Rattle.rules.specs.Calendar.{row_of, days_before_month}
 use Rattle.calendar_laws.proofs.Years.{months_twelve, month_between}
 
@@ -36,48 +36,21 @@ months_most year month =
     omega (arith, same, past_december year (month - 1 - 12), few_months year 12 (omega arith)))
     (below_or_not (month - 1) 12)
 
--- what the walk keeps: the first i months are added up, none of them past the year's last or the last of those asked
-pub record Walked (year months days i : ℕ) : Type 0 where
-  pub added : days ≡ first_months year i
-  pub place : i ≤ 12
-  pub asked : i ≤ months
+-- one month more
+pub month_more : (year i : ℕ) → first_months year (i + 1) ≡ first_months year i + entry (row_of year) i
+month_more year i = ap (first_months year) (add-one i) ∙ sum_more ◌+◌ 0 naturals i (entry (row_of year))
 
-pub walked_none : (year months : ℕ) → Walked year months 0 0
-unfolding counted gathered
-walked_none year months = record { added = refl; place = omega arith; asked = omega arith }
+-- the months of a year come to 372 days at most, so many of them as are asked
+pub first_most : (year i : ℕ) → i ≤ 12 → first_months year i ≤ 372
+first_most year i h = omega (arith, few_months year i h)
 
-module _ {year months days i : ℕ} (w : Walked year months days i) where
-  pub walked_most : days ≤ 372
-  walked_most = omega (arith, w.added, w.place, few_months year i w.place)
-
-  -- one month more
-  module _ (h : (ltb i 12 && ltb i months) ≡ true) where
-    pub walked_inside : i < 12
-    walked_inside = ltb-true i 12 (both (ltb i 12) (ltb i months) h).0
-
-    module _ (row : List ℕ) (e : row ≡ row_of year) where
-      pub walked_month : entry row i ≤ 31
-      walked_month = rw e (month_between year i walked_inside).1
-
-      pub walked_next : Walked year months (days + entry row i) (i + 1)
-      walked_next =
-          let more = ltb-true i months (both (ltb i 12) (ltb i months) h).1 in
-          record {
-            added =
-                ap₂ (λ (n : ℕ) (r : List ℕ). n + entry r i) w.added e ∙ sym (sum_more ◌+◌ 0 naturals i (entry (row_of year))) ∙ ap (first_months year) (sym (add-one i));
-            place = omega (arith, walked_inside);
-            asked = omega (arith, more);
-          }
-
-  -- no month is left
-  pub walked_end : (ltb i 12 && ltb i months) ≡ false → days ≡ first_months year months
-  walked_end h =
-      ⊎_elim
-      (λ (inside : i < 12).
-      let last : months ≤ i = ltb-false i months (sym (ap (λ (t : Bool). t && ltb i months) (lt-ltb i 12 inside)) ∙ h) in
-      w.added ∙ ap (first_months year) (omega (arith, last, w.asked)))
-      (λ (december : 12 ≤ i).
-      let all : i ≡ 12 = omega (arith, december, w.place) in
-      let more : 12 + (months - 12) ≡ months = omega (arith, all, w.asked) in
-      w.added ∙ ap (first_months year) all ∙ sym (past_december year (months - 12)) ∙ ap (first_months year) more)
-      (below_or_not i 12)
+-- and past December there are none
+pub months_asked : (year months n : ℕ) → n ≡ min months 12 → first_months year n ≡ first_months year months
+months_asked year months n e =
+    ⊎_elim
+    (λ (inside : months < 12). ap (first_months year) (omega (arith, e, inside)))
+    (λ (past : 12 ≤ months).
+    let all : n ≡ 12 = omega (arith, e, past) in
+    let more : 12 + (months - 12) ≡ months = omega (arith, past) in
+    ap (first_months year) all ∙ sym (past_december year (months - 12)) ∙ ap (first_months year) more)
+    (below_or_not months 12)

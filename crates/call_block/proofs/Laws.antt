@@ -1,13 +1,11 @@
 -- The number of a block, and that its lists have one length where it is accepted.
-use Rattle.numbers.proofs.Words.{ℕ, arith, ◌≡◌, refl, sym, ap, ◌∙◌, Bool, true, false, not, cond, ◌||◌, List, eqb, eqb-true, eq-eqb, not-false, length, some}
+use Rattle.numbers.proofs.Words.{ℕ, arith, ◌≡◌, refl, sym, ap, ◌∙◌, Bool, true, false, not, cond, ◌||◌, eqb, eqb-true, eq-eqb, not-false, length, some}
 use Rattle.numbers.proofs.Tests.{or_left, or_right}
-use Rattle.rules.specs.declared.book.{Book.Book, Answer.Answer}
+use Rattle.rules.specs.declared.book.{Book.Book}
 use Rattle.rules.specs.Book.{good}
-use Rattle.rules.specs.Blocks.{Block, offers_of, book_after_offers, offer_numbers, unequal, block_number, block_answer, block_answers}
-use Rattle.book_laws.proofs.Answers.{refused, accepted, kept, written, says, says_none}
-
-abbrev made : ℕ → Book → Answer
-made number book = record { number = number; book = book }
+use Rattle.rules.specs.Blocks.{Block, unequal, block_number}
+use Rattle.book_laws.proofs.Answers.{says, says_none}
+use Rattle.call_block.specs.Lists.{Equal}
 
 -- 29, as the code judges it (02, b, 6)
 abbrev pub differing : Block → ℕ → Bool
@@ -22,38 +20,18 @@ unequal_is trades n = ap (λ (t : Bool). not (eqb (length trades.buyers) n) || (
     last false = refl
 
 -- 1, then 29 (02, b, 6)
-abbrev pub number_of : Bool → Bool → ℕ
-number_of is differ = cond (not is) 1 (cond differ 29 0)
-
-pub block_number_lem : (b : Book) (trades : Block) (n : ℕ) → number_of (good b) (differing trades n) ≡ block_number b trades n
+pub block_number_lem : (b : Book) (trades : Block) (n : ℕ) → block_number b trades n ≡ cond (not (good b)) 1 (cond (differing trades n) 29 0)
 unfolding block_number
 block_number_lem b trades n = rw (sym (unequal_is trades n)) (simp (says, says_none))
 
 -- 0 only where the book is good and the lists do not differ
-pub none_said : (is differ : Bool) → number_of is differ ≡ 0 → (is ≡ true) × (differ ≡ false)
+none_said : (is differ : Bool) → cond {A = ℕ} (not is) 1 (cond differ 29 0) ≡ 0 → (is ≡ true) × (differ ≡ false)
 none_said true true e = absurd (omega arith)
 none_said true false e = (refl, refl)
 none_said false differ e = absurd (omega arith)
 
--- what a refused block hands out, and an accepted one (01, Book, 7; 02, b, 3 and 4)
-module _ (b : Book) (trades : Block) (answers : List ℕ) where
-  pub refused_block : (n : ℕ) → n ≡ block_number b trades (length answers) → (n ≡ 0 → ⊥) → (made n b ≡ block_answer b trades (length answers)) × (answers ≡ block_answers b trades answers)
-  unfolding block_answer block_answers
-  refused_block n e ne = (refused n _ _ _ e ne, kept n _ _ _ e ne)
-
-  pub accepted_block : (n : ℕ) {book : Book} {now : List ℕ} → n ≡ block_number b trades (length answers) → n ≡ 0 → (book ≡ book_after_offers b (offers_of trades)) × (now ≡ offer_numbers b (offers_of trades))
-      → (made n book ≡ block_answer b trades (length answers)) × (now ≡ block_answers b trades answers)
-  unfolding block_answer block_answers
-  accepted_block n e z after = (accepted n _ _ _ _ e z after.0, after.1 ∙ written n _ _ _ e z)
-
 -- lists that do not differ have one length
-pub record Equal (trades : Block) (n : ℕ) : Type 0 where
-  pub buyers : length trades.buyers ≡ n
-  pub sellers : length trades.sellers ≡ n
-  pub prices : length trades.prices ≡ n
-  pub lots : length trades.lots ≡ n
-
-pub equal : (trades : Block) (n : ℕ) → differing trades n ≡ false → Equal trades n
+equal : (trades : Block) (n : ℕ) → differing trades n ≡ false → Equal trades n
 equal trades n e =
     let a = not (eqb (length trades.buyers) n) in
     let b = not (eqb (length trades.sellers) n) in
@@ -68,7 +46,12 @@ equal trades n e =
       lots = eqb-true _ _ (not-false _ (or_right c d last));
     }
 
--- so a block with equal lists is accepted on a good book (02, b, 6)
+-- so a block is accepted on a good book where its lists are equal, and only there (02, b, 6)
 pub block_accepted : (b : Book) (trades : Block) (n : ℕ) → good b ≡ true → Equal trades n → block_number b trades n ≡ 0
 block_accepted b trades n is same =
-    sym (block_number_lem b trades n) ∙ rw (is, eq-eqb _ _ same.buyers, eq-eqb _ _ same.sellers, eq-eqb _ _ same.prices, eq-eqb _ _ same.lots)
+    block_number_lem b trades n ∙ rw (is, eq-eqb _ _ same.buyers, eq-eqb _ _ same.sellers, eq-eqb _ _ same.prices, eq-eqb _ _ same.lots)
+
+pub accepted_block : (b : Book) (trades : Block) (n : ℕ) → block_number b trades n ≡ 0 → (good b ≡ true) × Equal trades n
+accepted_block b trades n e =
+    let said = none_said (good b) (differing trades n) (sym (block_number_lem b trades n) ∙ e) in
+    (said.0, equal trades n said.1)

@@ -100,8 +100,8 @@ module _ {b : Book} {trades : Block} {was : List ℕ} {sections : List Section} 
       unfolding trade_answer
       number_of = number_is
 
-      pub walk_next : i < length was → length trades.buyers ≡ length was → Walk b trades was (set (set sections p s) q t) k (set now i n) (i + 1)
-      walk_next h same =
+      pub walk_next : {answer : ℕ} → answer ≡ n → i < length was → length trades.buyers ≡ length was → Walk b trades was (set (set sections p s) q t) k (set now i answer) (i + 1)
+      walk_next {answer = answer} answered h same =
           let short : i < length (offers_of trades) = omega (arith, h, same, offers_long trades) in
           let found = offer_at_lem trades i (omega (arith, h, same)) in
           let given = w.book in
@@ -112,8 +112,9 @@ module _ {b : Book} {trades : Block} {was : List ℕ} {sections : List Section} 
                 ∙ ap₂ (λ (e : Book) (o : Offer). (offer_answer e o).book) given (sym found)
                 ∙ sym (offers_next (offers_of trades) b i (offer_at trades 0) short);
             answers =
-                filled_next w.answers h n
-                (number_of
+                filled_next w.answers h answer
+                (answered
+                ∙ number_of
                 ∙ ap₂ (λ (e : Book) (o : Offer). (offer_answer e o).number) given (sym found)
                 ∙ sym (offer_number (offers_of trades) b i (offer_at trades 0) short));
           }

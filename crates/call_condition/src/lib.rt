@@ -3,23 +3,25 @@
 
 ghost use Rattle.std.specs.Prelude.{◌≡◌, true};
 ghost use Rattle.rules.specs.Book.{good};
+ghost use Rattle.rules.specs.Answers.{number_in, answer_in};
 ghost use Rattle.rules.specs.Calls as Rules;
 
-use rules::book::{Answer, Book};
-use rules::limits::{ACCEPTED, BAD_BOOK, EXPIRED, UNKNOWN_SECTION};
+use rules::book::Book;
+use rules::refusal::Refusal;
 
-// The number of a condition call on a good book (01, Condition, 1).
-pub fn refusal(b: Book, section: u8) -> u8
+// Whether a condition call on a good book is accepted, or why it is refused (01, Condition, 1).
+#[tactic(auto, unfolding(rules::specs::Calls::first, rules::specs::Calls::condition_number))]
+pub fn check(b: Book, section: u8) -> Result<(), Refusal>
     requires { good b ≡ true }
-    ensures { result ≡ Rules.condition_number b section }
+    ensures { number_in result ≡ Rules.condition_number b section }
 {
     if b.expired {
-        return EXPIRED;
+        return Err(Refusal::Expired);
     }
     if b.held <= (section as usize) {
-        return UNKNOWN_SECTION;
+        return Err(Refusal::UnknownSection);
     }
-    ACCEPTED
+    Ok(())
 }
 
 pub fn marked(b: Book, section: u8, met: bool) -> Book
@@ -34,20 +36,14 @@ pub fn marked(b: Book, section: u8, met: bool) -> Book
     next
 }
 
-// The book with the section's mark set, or a refusal and the same book (01, Condition, 1; 01, Book, 5 and 6 and 7; 01, Bound, a).
-pub fn set_condition(b: Book, section: u8, met: bool) -> Answer
-    ensures { result ≡ Rules.condition_answer b section met }
+// The book with the section's mark set, or a refusal (01, Condition, 1; 01, Book, 5 and 6 and 7; 01, Bound, a).
+#[tactic(auto, unfolding(rules::specs::Calls::first, rules::specs::Calls::condition_number, rules::specs::Calls::condition_answer))]
+pub fn set_condition(b: Book, section: u8, met: bool) -> Result<Book, Refusal>
+    ensures { answer_in b result ≡ Rules.condition_answer b section met }
 {
     if !judge::good(b) {
-        return Answer {
-            number: BAD_BOOK,
-            book: b,
-        };
+        return Err(Refusal::BadBook);
     }
-    let number = refusal(b, section);
-    if number != ACCEPTED {
-        return Answer { number, book: b };
-    }
-    let book = marked(b, section, met);
-    Answer { number, book }
+    check(b, section)?;
+    Ok(marked(b, section, met))
 }

@@ -1,75 +1,56 @@
 // The expiry: which obligations lapse, and who sells wheat to whom at which elevator.
 #![tactic(auto)]
 
-ghost use Rattle.std.specs.Prelude.{◌≡◌, true, ◌||◌, ltb};
+ghost use Rattle.std.specs.Prelude.{◌≡◌, true, ◌||◌, ltb, length};
+ghost use Rattle.rules.specs.Answers.{number_in, expiry_answer_in};
 ghost use Rattle.rules.specs.Book.{good};
 ghost use Rattle.rules.specs.Calls.{first};
 ghost use Rattle.rules.specs.Expiry.Call;
-ghost use Rattle.method_delivery.specs.Lent.{lists};
+ghost use Rattle.rules.specs.Lent.{lists_of, SameLists};
 
-use rules::book::{Book, ExpiryAnswer, LastSession};
-use rules::limits::{
-    ACCEPTED, BAD_BOOK, EXPIRED, NOT_AFTER_DAY, REGISTER_PLACES, REGISTER_SHORT,
-    SECTION_LISTS_SHORT,
-};
-
-// Whether the last session was a day session (01, Expiry call, 1).
-fn day_last(last: LastSession) -> bool
-    ensures { result ≡ Call.day_last last }
-{
-    match last {
-        LastSession::None => false,
-        LastSession::Day => true,
-        LastSession::Evening => false,
-    }
-}
+use rules::book::{Book, Expired, LastSession};
+use rules::limits::REGISTER_PLACES;
+use rules::lists::ExpiryLists;
+use rules::refusal::Refusal;
 
 // Whether some register list has too few entries (01, Expiry call, 1).
-fn register_short(buyers: usize, elevators: usize, sellers: usize, lots: usize) -> bool
-    ensures { result ≡ (ltb buyers 382 || (ltb elevators 382 || (ltb sellers 382 || ltb lots 382))) }
+fn register_short(lists: &ExpiryLists) -> bool
+    ensures { result ≡ (ltb (length lists.now.buyers.now) 382 || (ltb (length lists.now.elevators.now) 382 || (ltb (length lists.now.sellers.now) 382 || ltb (length lists.now.lots.now) 382))) }
 {
     let places = REGISTER_PLACES;
-    (buyers < places) | ((elevators < places) | ((sellers < places) | (lots < places)))
+    let later = (lists.sellers.len() < places) | (lists.lots.len() < places);
+    (lists.buyers.len() < places) | ((lists.elevators.len() < places) | later)
 }
 
 // Whether some section list has fewer entries than the sections held (01, Expiry call, 1; 02, a, 4).
-fn sections_short(held: usize, delivered: usize, terminated: usize, lapsed: usize) -> bool
-    ensures { result ≡ (ltb delivered held || (ltb terminated held || ltb lapsed held)) }
+fn sections_short(held: usize, lists: &ExpiryLists) -> bool
+    ensures { result ≡ (ltb (length lists.now.delivered.now) held || (ltb (length lists.now.terminated.now) held || ltb (length lists.now.lapsed.now) held)) }
 {
-    (delivered < held) | ((terminated < held) | (lapsed < held))
+    let later = (lists.terminated.len() < held) | (lists.lapsed.len() < held);
+    (lists.delivered.len() < held) | later
 }
 
-// The number of an expiry on a good book (01, Expiry call, 1).
-pub fn refusal(
-    b: Book,
-    buyers: &[u8],
-    elevators: &[u8],
-    sellers: &[u8],
-    lots: &[u32],
-    delivered: &[u32],
-    terminated: &[u32],
-    lapsed: &[u32],
-) -> u8
+// Whether an expiry on a good book is accepted, or why it is refused (01, Expiry call, 1).
+#[tactic(auto, using(crate::proofs::Laws::expiry_number_lem))]
+pub fn check(b: Book, lists: &ExpiryLists) -> Result<(), Refusal>
     requires { good b ≡ true }
-    ensures { result ≡ first (Call.expiry_refusals b (lists buyers.now elevators.now sellers.now lots.now delivered.now terminated.now lapsed.now)) }
+    ensures { number_in result ≡ first (Call.expiry_refusals b (lists_of lists.now)) }
 {
     if b.expired {
-        return EXPIRED;
+        return Err(Refusal::Expired);
     }
-    let last = b.last;
-    if !day_last(last) | (b.trades != 0) {
-        return NOT_AFTER_DAY;
+    if (b.last != LastSession::Day) | (b.trades != 0) {
+        return Err(Refusal::NotAfterDay);
     }
-    let held = b.held;
-    let register = register_short(buyers.len(), elevators.len(), sellers.len(), lots.len());
-    let sections = sections_short(held, delivered.len(), terminated.len(), lapsed.len());
+    let register = register_short(lists);
+    let sections = sections_short(b.held, lists);
     if register {
-        return REGISTER_SHORT;
+        return Err(Refusal::RegisterShort);
     }
     if sections {
-        return SECTION_LISTS_SHORT;
+        return Err(Refusal::SectionListsShort);
     }
-    ACCEPTED
+    Ok(())
 }
 
 // The book after its expiry (01, Expiry call, 3).
@@ -81,52 +62,24 @@ pub fn expired(b: Book) -> Book
     next
 }
 
-// A refused expiry: no counts, and the same book (01, Book, 7).
-fn refused(number: u8, b: Book) -> ExpiryAnswer
-    ensures { result ≡ record { number = number; pairs = 0; lines = 0; kept = 0; book = b } }
-{
-    ExpiryAnswer {
-        number,
-        pairs: 0,
-        lines: 0,
-        kept: 0,
-        book: b,
-    }
-}
-
-// An expiry: the register, what is delivered, terminated and lapsed, and the book that has expired; or a refusal with the book and all lists as they were
+// An expiry: the register, what is delivered, terminated and lapsed, and the book that has expired; or a refusal with all lists as they were
 // (01, Expiry call, 1 and 2 and 3; 01, Expiry, 7; 02, a, 4 and 6; 01, Forms, 2; 01, Book, 5 and 6 and 7; 01, Bound, a).
-pub fn expiry(
-    b: Book,
-    buyers: &mut [u8],
-    elevators: &mut [u8],
-    sellers: &mut [u8],
-    lots: &mut [u32],
-    delivered: &mut [u32],
-    terminated: &mut [u32],
-    lapsed: &mut [u32],
-) -> ExpiryAnswer
-    ensures value { result ≡ Call.expiry_answer b (lists buyers.old elevators.old sellers.old lots.old delivered.old terminated.old lapsed.old) }
-    ensures lapsed_after { lists buyers.new elevators.new sellers.new lots.new delivered.new terminated.new lapsed.new ≡ Call.expiry_lists b (lists buyers.old elevators.old sellers.old lots.old delivered.old terminated.old lapsed.old) }
+#[tactic(auto, unfolding(rules::specs::Calls::first, rules::specs::Expiry::Call::expiry_refusals, rules::specs::Expiry::Call::expiry_answer, rules::specs::Expiry::Call::expiry_lists))]
+pub fn expiry(b: Book, lists: &mut ExpiryLists) -> Result<Expired, Refusal>
+    ensures value { expiry_answer_in b result ≡ Call.expiry_answer b (lists_of lists.old) }
+    ensures lists_after { lists_of lists.new ≡ Call.expiry_lists b (lists_of lists.old) }
+    ensures same_lists { SameLists lists.new lists.old }
 {
     if !judge::good(b) {
-        return refused(BAD_BOOK, b);
+        return Err(Refusal::BadBook);
     }
-    let number = refusal(
-        b, buyers, elevators, sellers, lots, delivered, terminated, lapsed,
-    );
-    if number != ACCEPTED {
-        return refused(number, b);
-    }
-    let counts = method_delivery::deliver(
-        b, buyers, elevators, sellers, lots, delivered, terminated, lapsed,
-    );
+    check(b, lists)?;
+    let counts = method_delivery::deliver(b, lists);
     let book = expired(b);
-    ExpiryAnswer {
-        number,
+    Ok(Expired {
         pairs: counts.pairs,
         lines: counts.lines,
         kept: counts.kept,
         book,
-    }
+    })
 }

@@ -1,43 +1,40 @@
 -- The number and the answer of the call, as its code comes by them.
 use Rattle.numbers.proofs.Words.{ℕ, zero, suc, ◌/◌, ◌^◌, arith, ◌≡◌, refl, sym, ap, ◌∙◌, Bool, true, false, not, cond, ◌||◌, List, [], ◌∷◌, leb, ltb, leb-false, eqb, length, some, passing, apart, many}
-use Rattle.rules.specs.declared.book.{Book.Book}
+use Rattle.rules.specs.declared.book.{Book.Book, Failures.Failures}
 use Rattle.numbers.proofs.Counts.{many-same}
 use Rattle.numbers.proofs.Tests.{or_left, or_right}
+use Rattle.std.specs.List.{list_any}
 use Rattle.rules.specs.Book.{good, section_at}
 use Rattle.rules.specs.Calls.{Refusal, ◌if◌, first, count, marked, after_condition}
 use Rattle.rules.specs.Expiry.{size}
 use Rattle.rules.specs.Failures.{patterns, delivered_in, in_full, in_part, not_at_all, failures_number, failures_answer}
-use Rattle.book_laws.proofs.Answers.{says, says_none, kept, written}
+use Rattle.book_laws.proofs.Answers.{says, says_none, written}
 use Rattle.book_laws.proofs.Effects.Condition.{condition_read}
 use Rattle.method_laws.specs.Columns.{Below}
 use Rattle.method_patterns.specs.Patterns.{met_in, book_under}
 use Rattle.method_patterns.specs.Endings.{all_of, some_of, none_of, Counted}
-use Rattle.method_patterns.specs.declared.endings.{Counts.Counts}
 use Rattle.method_patterns.proofs.Laws.Numbered.{by_number}
 
 -- the refusals in their order, on a good book (02, n, 5)
-pub number_is : (b : Book) (asked : ℕ) (named : List ℕ) → good b ≡ true
-    → cond b.expired 5 (cond (leb b.held asked || some (leb b.held) named) 10 (cond (ltb 10 (length named) || not (apart eqb named)) 40 0)) ≡ failures_number b asked named
+pub failures_number_lem : (b : Book) (asked : ℕ) (named : List ℕ) → good b ≡ true
+    → failures_number b asked named ≡ cond b.expired 5 (cond (leb b.held asked || some (leb b.held) named) 10 (cond (ltb 10 (length named) || not (apart eqb named)) 40 0))
 unfolding failures_number some
-number_is b asked named is_good =
+failures_number_lem b asked named is_good =
     let unknown_one = leb b.held asked || some (leb b.held) named in
     let unfit = ltb 10 (length named) || not (apart eqb named) in
     let own : List Refusal = 10 if unknown_one ∷ 40 if unfit ∷ [] in
     let last = says 40 unfit [] ∙ ap (cond unfit 40) says_none in
     let later = says 10 unknown_one (40 if unfit ∷ []) ∙ ap (cond unknown_one 10) last in
-    sym
-    (says 1 (not (good b)) (5 if b.expired ∷ own)
+    says 1 (not (good b)) (5 if b.expired ∷ own)
     ∙ ap (λ (t : Bool). cond (not t) 1 (first (5 if b.expired ∷ own))) is_good
     ∙ says 5 b.expired own
-    ∙ ap (cond b.expired 5) later)
+    ∙ ap (cond b.expired 5) later
 
--- a refused call counts nothing (01, Book, 7)
-pub answer_refused : (b : Book) (asked : ℕ) (named : List ℕ) (n : ℕ) → n ≡ failures_number b asked named → (n ≡ 0 → ⊥)
-    → record { number = n; full = 0; part = 0; none = 0 } ≡ failures_answer b asked named
-unfolding failures_answer
-answer_refused b asked named n is some =
-    let nothing : (ends : Book → Bool) → 0 ≡ count (failures_number b asked named) (passing ends (patterns b named)) = λ ends. kept n _ _ 0 is some in
-    λ k. record { number = is k; full = nothing (in_full asked) k; part = nothing (in_part asked) k; none = nothing (not_at_all asked) k }
+-- what the library's `any` answers of a test, in the definitions' words
+pub any_some : {A : Type 0} (test : A → Bool) (xs : List A) → list_any test xs ≡ some test xs
+unfolding some
+any_some test [] = refl
+any_some test (x ∷ xs) = ap (λ (t : Bool). test x || t) (any_some test xs)
 
 -- the section asked has as many lots under every pattern
 size_under : (b : Book) (named : List ℕ) (p asked : ℕ) → size (section_at (book_under b named p) asked) ≡ size (section_at b asked)
@@ -54,13 +51,13 @@ ends_counted b asked named ends test same =
     (by_number ends b named
     ∙ many-same (2 ^ length named) _ _ (λ q h. same (book_under b named q) ∙ ap (λ (own : ℕ). test own (delivered_in asked (book_under b named q))) (size_under b named q asked)))
 
-pub answer_accepted : (b : Book) (asked : ℕ) (named : List ℕ) (n : ℕ) (c : Counts) → n ≡ failures_number b asked named → n ≡ 0
+pub answer_accepted : (b : Book) (asked : ℕ) (named : List ℕ) (c : Failures) → 0 ≡ failures_number b asked named
     → Counted (size (section_at b asked)) (λ (q : ℕ). delivered_in asked (book_under b named q)) (2 ^ length named) c
-    → record { number = n; full = c.full; part = c.part; none = c.none } ≡ failures_answer b asked named
+    → record { number = 0; full = c.full; part = c.part; none = c.none } ≡ failures_answer b asked named
 unfolding failures_answer in_full in_part not_at_all
-answer_accepted b asked named n c is none counted =
+answer_accepted b asked named c is counted =
     let here : (x : ℕ) (ends : Book → Bool) → x ≡ length (passing ends (patterns b named)) → x ≡ count (failures_number b asked named) (passing ends (patterns b named)) =
-    λ x ends e. e ∙ written n _ _ 0 is none in
+    λ x ends e. e ∙ written 0 _ _ 0 is refl in
     λ k. record {
       number = is k;
       full = here _ (in_full asked) (counted.full ∙ ends_counted b asked named (in_full asked) all_of (λ b. refl)) k;

@@ -9,15 +9,7 @@ use rules::limits::NAMED_MOST;
 pub fn some_unknown(held: usize, named: &[u8]) -> bool
     ensures { result ≡ some (leb held) named.now }
 {
-    let mut i = 0;
-    while i < named.len() {
-        let section = named[i] as usize;
-        if held <= section {
-            return true;
-        }
-        i += 1;
-    }
-    false
+    named.iter().any(|section| held <= (*section as usize))
 }
 
 // The sections named as keys.
@@ -25,11 +17,8 @@ fn widen(named: &[u8], wide: &mut [u64])
     requires { length wide.old ≡ length named.now }
     ensures { wide.new ≡ named.now }
 {
-    let all = named.len();
-    let mut i = 0;
-    while i < all {
-        wide[i] = named[i] as u64;
-        i += 1;
+    for (i, section) in named.iter().enumerate() {
+        wide[i] = *section as u64;
     }
 }
 

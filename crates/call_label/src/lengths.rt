@@ -6,7 +6,7 @@ ghost use Rattle.call_label.specs.Lengths.{largest_of};
 
 use value::signed;
 
-// The largest numbers of one digit, of two, and so on; the last is the largest of 64 bits.
+// The largest numbers of one digit, of two, and so on; the last is the largest of 64 bits. (A table and no logarithm: three edits change its entries.)
 const LARGEST: [u64; 20] = [
     9,
     99,
@@ -41,11 +41,12 @@ pub fn digits(n: u64) -> usize
     ensures { (result ≡ length (decimal n)) × (result ≤ 20) }
 {
     let table = largest();
-    let mut more = 0;
-    while table[more] < n {
-        more += 1;
+    for (more, most) in table.iter().enumerate() {
+        if n <= *most {
+            return more + 1;
+        }
     }
-    more + 1
+    20
 }
 
 // With a minus sign where it is below 0 (02, m, 2).

@@ -1,10 +1,11 @@
 // How many bytes the rows of lines and of sections have: one walk over each, in which the lines are judged too.
-ghost use Rattle.std.specs.Prelude.{ℕ, ◌≡◌, ◌≤◌, length, cond};
-ghost use Rattle.rules.specs.Words.{every, counted};
+ghost use Rattle.std.specs.Prelude.{◌≡◌, ◌≤◌, length, IfSome};
 ghost use Rattle.rules.specs.Label.{row_fit};
-ghost use Rattle.call_label.specs.Lengths.{line_at, line_length, lines_length, section_length, sections_length};
+ghost use Rattle.call_label.specs.Lengths.{line_length, lines_counted, section_length, sections_length};
+ghost use Rattle.call_label.specs.Lists.{lists_read};
 
 use crate::lengths;
+use crate::lists::Lists;
 use listing::rows;
 use rules::limits::{ELEVATOR_MOST, LINE_LOTS_MOST};
 use rules::units::{Lots, Tonnes};
@@ -13,13 +14,6 @@ use rules::units::{Lots, Tonnes};
 const LINE_FRAME: usize = 19;
 
 const SECTION_FRAME: usize = 12;
-
-// Whether all rows are fit, and the bytes of all of them, none where one is not.
-#[derive(Drop)]
-pub struct Walked {
-    pub fit: bool,
-    pub bytes: usize,
-}
 
 // Whether a listing can have a row (02, m, 4).
 fn row_fit(held: usize, buyer: u8, elevator: u8, seller: u8, lots: u32) -> bool
@@ -62,55 +56,37 @@ fn section(delivered: u32, terminated: u32, lapsed: u32, sum: i64) -> usize
     SECTION_FRAME + numbers
 }
 
-// The rows of the register, judged and counted row by row (02, m, 2 and 4).
-pub fn lines(
-    held: usize,
-    lot: Tonnes,
-    buyers: &[u8],
-    elevators: &[u8],
-    sellers: &[u8],
-    lots: &[u32],
-) -> Walked
-    requires { (lot.0 ≤ 1_000) × (length buyers.now ≤ 382) × (length elevators.now ≡ length buyers.now) × (length sellers.now ≡ length buyers.now) × (length lots.now ≡ length buyers.now) }
-    ensures fit_value { result.fit ≡ every (λ (i : ℕ). row_fit held (line_at buyers.now elevators.now sellers.now lots.now i)) (counted 0 (length buyers.now)) }
-    ensures bytes_value { result.bytes ≡ cond result.fit (lines_length lot elevators.now lots.now (length buyers.now)) 0 }
-    ensures bytes_bound { result.bytes ≤ 30_178 }
+// The rows of the register, judged and counted row by row: none where one is not fit (02, m, 2 and 4).
+pub fn lines(held: usize, lot: Tonnes, lists: Lists) -> Option<usize>
+    requires { (lot.0 ≤ 1_000) × (length lists.buyers.now ≤ 382) × (length lists.elevators.now ≡ length lists.buyers.now) × (length lists.sellers.now ≡ length lists.buyers.now) × (length lists.lots.now ≡ length lists.buyers.now) }
+    ensures value { result ≡ lines_counted held lot (lists_read lists.entry).lists }
+    ensures bound { IfSome result (λ n. n ≤ 30_178) }
 {
     let mut bytes = 0;
-    let mut i = 0;
-    while i < buyers.len() {
-        let elevator = elevators[i];
-        let some = lots[i];
-        if !row_fit(held, buyers[i], elevator, sellers[i], some) {
-            return Walked {
-                fit: false,
-                bytes: 0,
-            };
+    for i in 0..lists.buyers.len() {
+        let elevator = lists.elevators[i];
+        let some = lists.lots[i];
+        if !row_fit(held, lists.buyers[i], elevator, lists.sellers[i], some) {
+            return None;
         }
         let more = line(lot, elevator, some);
         bytes += more;
-        i += 1;
     }
-    Walked { fit: true, bytes }
+    Some(bytes)
 }
 
 // The rows of the sections held (02, m, 2).
-pub fn sections(
-    held: usize,
-    delivered: &[u32],
-    terminated: &[u32],
-    lapsed: &[u32],
-    sums: &[i64],
-) -> usize
-    requires { (held ≤ 128) × (held ≤ length delivered.now) × (held ≤ length terminated.now) × (held ≤ length lapsed.now) × (held ≤ length sums.now) }
-    ensures { (result ≡ sections_length delivered.now terminated.now lapsed.now sums.now held) × (result ≤ 11_904) }
+pub fn sections(held: usize, lists: Lists) -> usize
+    requires { (held ≤ 128) × (held ≤ length lists.delivered.now) × (held ≤ length lists.terminated.now) × (held ≤ length lists.lapsed.now) × (held ≤ length lists.sums.now) }
+    ensures { (result ≡ sections_length (lists_read lists.entry) held) × (result ≤ 11_904) }
 {
     let mut bytes = 0;
-    let mut i = 0;
-    while i < held {
-        let more = section(delivered[i], terminated[i], lapsed[i], sums[i]);
+    for i in 0..held {
+        let delivered = lists.delivered[i];
+        let terminated = lists.terminated[i];
+        let lapsed = lists.lapsed[i];
+        let more = section(delivered, terminated, lapsed, lists.sums[i]);
         bytes += more;
-        i += 1;
     }
     bytes
 }

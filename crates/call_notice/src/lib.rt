@@ -3,41 +3,40 @@
 
 ghost use Rattle.std.specs.Prelude.{◌≡◌, true};
 ghost use Rattle.rules.specs.Book.{good};
+ghost use Rattle.rules.specs.Answers.{number_in, answer_in};
 ghost use Rattle.rules.specs.Calls as Rules;
 
 use judge::{notices, terms};
-use rules::book::{Answer, Book, Notice};
-use rules::limits::{
-    ACCEPTED, BAD_BOOK, BAD_ELEVATOR, BAD_NOTICE_LOTS, ELEVATOR_MOST, EXPIRED, NOTICE_FILED,
-    NOTICE_LOTS_MOST, NOTICE_PLACES, NOTICES_FULL, UNKNOWN_SECTION,
-};
+use rules::book::{Book, Notice};
+use rules::limits::{ELEVATOR_MOST, NOTICE_LOTS_MOST, NOTICE_PLACES};
+use rules::refusal::Refusal;
 use rules::units::Lots;
 
-// The number of a notice call on a good book (01, Notice, 1).
+// Whether a notice call on a good book is accepted, or why it is refused (01, Notice, 1).
 #[tactic(auto, unfolding(rules::specs::Calls::first, rules::specs::Calls::notice_number))]
-pub fn refusal(b: Book, section: u8, elevator: u8, lots: u32) -> u8
+pub fn check(b: Book, section: u8, elevator: u8, lots: u32) -> Result<(), Refusal>
     requires { good b ≡ true }
-    ensures { result ≡ Rules.notice_number b section elevator lots }
+    ensures { number_in result ≡ Rules.notice_number b section elevator lots }
 {
     if b.expired {
-        return EXPIRED;
+        return Err(Refusal::Expired);
     }
     if b.held <= (section as usize) {
-        return UNKNOWN_SECTION;
+        return Err(Refusal::UnknownSection);
     }
     if ELEVATOR_MOST < elevator {
-        return BAD_ELEVATOR;
+        return Err(Refusal::BadElevator);
     }
     if !terms::counted(lots, NOTICE_LOTS_MOST) {
-        return BAD_NOTICE_LOTS;
+        return Err(Refusal::BadNoticeLots);
     }
     if notices::notice_filed(b, section, elevator) {
-        return NOTICE_FILED;
+        return Err(Refusal::NoticeFiled);
     }
     if NOTICE_PLACES <= b.filed {
-        return NOTICES_FULL;
+        return Err(Refusal::NoticesFull);
     }
-    ACCEPTED
+    Ok(())
 }
 
 // The book with one notice more, which takes the next place.
@@ -57,20 +56,14 @@ pub fn filed(b: Book, section: u8, elevator: u8, lots: u32) -> Book
     next
 }
 
-// The book with the notice, or a refusal and the same book (01, Notice, 1; 01, Book, 5 and 6 and 7; 01, Bound, a).
-pub fn file_notice(b: Book, section: u8, elevator: u8, lots: u32) -> Answer
-    ensures { result ≡ Rules.notice_answer b section elevator lots }
+// The book with the notice, or a refusal (01, Notice, 1; 01, Book, 5 and 6 and 7; 01, Bound, a).
+#[tactic(auto, unfolding(rules::specs::Calls::first, rules::specs::Calls::notice_number, rules::specs::Calls::notice_answer))]
+pub fn file_notice(b: Book, section: u8, elevator: u8, lots: u32) -> Result<Book, Refusal>
+    ensures { answer_in b result ≡ Rules.notice_answer b section elevator lots }
 {
     if !judge::good(b) {
-        return Answer {
-            number: BAD_BOOK,
-            book: b,
-        };
+        return Err(Refusal::BadBook);
     }
-    let number = refusal(b, section, elevator, lots);
-    if number != ACCEPTED {
-        return Answer { number, book: b };
-    }
-    let book = filed(b, section, elevator, lots);
-    Answer { number, book }
+    check(b, section, elevator, lots)?;
+    Ok(filed(b, section, elevator, lots))
 }

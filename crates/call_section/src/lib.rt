@@ -3,38 +3,37 @@
 
 ghost use Rattle.std.specs.Prelude.{◌≡◌, true};
 ghost use Rattle.rules.specs.Book.{good};
+ghost use Rattle.rules.specs.Answers.{number_in, answer_in};
 ghost use Rattle.rules.specs.Calls as Rules;
 
 use judge::sections;
-use rules::book::{Answer, Book, Section};
-use rules::limits::{
-    ACCEPTED, BAD_BOOK, BAD_CODE, BAD_SETTLEMENT, CODE_HELD, EXPIRED, SECTION_PLACES,
-    SECTIONS_FULL, SETTLEMENT_MOST,
-};
+use rules::book::{Book, Section};
+use rules::limits::{SECTION_PLACES, SETTLEMENT_MOST};
+use rules::refusal::Refusal;
 use rules::units::{Kopecks, Lots};
 
-// The number of a section call on a good book (01, Section, 1).
+// Whether a section call on a good book is accepted, or why it is refused (01, Section, 1).
 #[tactic(auto, unfolding(rules::specs::Calls::first, rules::specs::Calls::section_number))]
-pub fn refusal(b: Book, settlement: u8, code: [u8; 7]) -> u8
+pub fn check(b: Book, settlement: u8, code: [u8; 7]) -> Result<(), Refusal>
     requires { good b ≡ true }
-    ensures { result ≡ Rules.section_number b settlement code }
+    ensures { number_in result ≡ Rules.section_number b settlement code }
 {
     if b.expired {
-        return EXPIRED;
+        return Err(Refusal::Expired);
     }
     if SETTLEMENT_MOST < settlement {
-        return BAD_SETTLEMENT;
+        return Err(Refusal::BadSettlement);
     }
     if !section_code::code_good(code) {
-        return BAD_CODE;
+        return Err(Refusal::BadCode);
     }
     if sections::code_held(b, code) {
-        return CODE_HELD;
+        return Err(Refusal::CodeHeld);
     }
     if SECTION_PLACES <= b.held {
-        return SECTIONS_FULL;
+        return Err(Refusal::SectionsFull);
     }
-    ACCEPTED
+    Ok(())
 }
 
 // A section with no lots, its condition not met (01, Book, 3).
@@ -65,26 +64,20 @@ pub fn with_section(b: Book, settlement: u8, code: [u8; 7], participant: u32, se
     next
 }
 
-// A section more, or a refusal and the same book (01, Section, 1; 01, Book, 5 and 6 and 7; 01, Bound, a).
+// The book with a section more, or a refusal (01, Section, 1; 01, Book, 5 and 6 and 7; 01, Bound, a).
+#[tactic(auto, unfolding(rules::specs::Calls::first, rules::specs::Calls::section_number, rules::specs::Calls::section_answer))]
 pub fn open_section(
     b: Book,
     settlement: u8,
     code: [u8; 7],
     participant: u32,
     seller: bool,
-) -> Answer
-    ensures { result ≡ Rules.section_answer b settlement code participant seller }
+) -> Result<Book, Refusal>
+    ensures { answer_in b result ≡ Rules.section_answer b settlement code participant seller }
 {
     if !judge::good(b) {
-        return Answer {
-            number: BAD_BOOK,
-            book: b,
-        };
+        return Err(Refusal::BadBook);
     }
-    let number = refusal(b, settlement, code);
-    if number != ACCEPTED {
-        return Answer { number, book: b };
-    }
-    let book = with_section(b, settlement, code, participant, seller);
-    Answer { number, book }
+    check(b, settlement, code)?;
+    Ok(with_section(b, settlement, code, participant, seller))
 }

@@ -3,32 +3,35 @@
 
 ghost use Rattle.std.specs.Prelude.{ℕ, ◌≡◌, true, cond, ◌≤◌, ◌<◌, nat_abs, length, pos, ◌+ℤ◌};
 ghost use Rattle.rules.specs.Book.{good, position_of, basis_of};
+ghost use Rattle.rules.specs.Answers.{number_in, answer_in};
 ghost use Rattle.rules.specs.Calls as Rules;
 ghost use Rattle.call_session.specs.Paid.{paid_to, paid_into};
 ghost use Rattle.std.specs.Int.{w64};
 ghost use Rattle.std.proofs.Common.{SFits};
 
 use judge::terms;
-use rules::book::{Answer, Book, LastSession, Section};
-use rules::limits::{ACCEPTED, BAD_BOOK, BAD_SESSION_PRICE, EXPIRED, MARGINS_SHORT, PRICE_MOST};
+use rules::book::{Book, LastSession, Section};
+use rules::limits::PRICE_MOST;
+use rules::refusal::Refusal;
 use rules::units::Kopecks;
 use value::signed;
 
-// The number of a session on a good book; `room` is the length of the margin list (01, Session, 1).
-pub fn refusal(b: Book, price: u32, room: usize) -> u8
+// Whether a session on a good book is accepted, or why it is refused; `room` is the length of the margin list (01, Session, 1).
+#[tactic(auto, unfolding(rules::specs::Calls::first, rules::specs::Calls::session_number))]
+pub fn check(b: Book, price: u32, room: usize) -> Result<(), Refusal>
     requires { good b ≡ true }
-    ensures { result ≡ Rules.session_number b price room }
+    ensures { number_in result ≡ Rules.session_number b price room }
 {
     if b.expired {
-        return EXPIRED;
+        return Err(Refusal::Expired);
     }
     if !terms::counted(price, PRICE_MOST) {
-        return BAD_SESSION_PRICE;
+        return Err(Refusal::BadSessionPrice);
     }
     if room < b.held {
-        return MARGINS_SHORT;
+        return Err(Refusal::MarginsShort);
     }
-    ACCEPTED
+    Ok(())
 }
 
 // The kind of session that comes next (01, Session, 2).
@@ -86,13 +89,11 @@ pub fn after_session(b: Book, price: u32, added: bool, list: &mut [i64]) -> Book
     let value = terms::value_at(b.w, b.r, price);
     let held = b.held;
     let mut sections = b.sections;
-    let mut i = 0;
-    while i < held {
+    for i in 0..held {
         let s = b.sections[i];
         let entry = list[i];
         list[i] = paid(added, entry, margin(s, value));
         sections[i] = settled(s, value);
-        i += 1;
     }
     let last = b.last;
     let next = following(last);
@@ -113,21 +114,15 @@ pub fn after_session(b: Book, price: u32, added: bool, list: &mut [i64]) -> Book
     }
 }
 
-// A session: margins in the list and the book after it, or a refusal with both as they were (01, Session, 1 and 2 and 3; 01, Book, 5 and 6 and 7; 01, Bound, a).
-pub fn hold_session(b: Book, price: u32, margins: &mut [i64]) -> Answer
-    ensures value { result ≡ Rules.session_answer b price (length margins.old) }
+// A session: margins in the list and the book after it, or a refusal with the list as it was (01, Session, 1 and 2 and 3; 01, Book, 5 and 6 and 7; 01, Bound, a).
+#[tactic(auto, unfolding(rules::specs::Calls::first, rules::specs::Calls::session_number, rules::specs::Calls::session_answer, rules::specs::Calls::session_margins))]
+pub fn hold_session(b: Book, price: u32, margins: &mut [i64]) -> Result<Book, Refusal>
+    ensures value { answer_in b result ≡ Rules.session_answer b price (length margins.old) }
     ensures margins_after { margins.new ≡ Rules.session_margins b price margins.old }
 {
     if !judge::good(b) {
-        return Answer {
-            number: BAD_BOOK,
-            book: b,
-        };
+        return Err(Refusal::BadBook);
     }
-    let number = refusal(b, price, margins.len());
-    if number != ACCEPTED {
-        return Answer { number, book: b };
-    }
-    let book = after_session(b, price, false, margins);
-    Answer { number, book }
+    check(b, price, margins.len())?;
+    Ok(after_session(b, price, false, margins))
 }

@@ -5,15 +5,13 @@ ghost use Rattle.std.specs.Prelude.{◌≡◌, true, ◌≤◌, nat_abs, pos, ne
 ghost use Rattle.rules.specs.Book.{good, position_of, basis_of};
 ghost use Rattle.rules.specs.Calls.{first, handed_out};
 ghost use Rattle.rules.specs.Calls as Rules;
+ghost use Rattle.rules.specs.Answers.{number_in, answer_in};
 ghost use Rattle.call_trade.specs.Offered.{place_of, party_number, room_number, offered_number, Movable};
 
 use judge::terms;
-use rules::book::{Answer, Book, Section};
-use rules::limits::{
-    ACCEPTED, BAD_BOOK, BAD_TRADE_LOTS, BAD_TRADE_PRICE, BUYER_IS_SELLER, EXPIRED,
-    POSITION_EXCEEDED, POSITION_MOST, PRICE_MOST, SECTION_PLACES, TRADE_LOTS_MOST, TRADES_FULL,
-    TRADES_MOST, UNKNOWN_SECTION,
-};
+use rules::book::{Book, Section};
+use rules::limits::{POSITION_MOST, PRICE_MOST, SECTION_PLACES, TRADE_LOTS_MOST, TRADES_MOST};
+use rules::refusal::Refusal;
 use rules::units::{Kopecks, Lots};
 use value::signed;
 
@@ -27,59 +25,60 @@ fn exceeds(s: Section, lots: i64) -> bool
     !signed::within(next, POSITION_MOST)
 }
 
-// 5, 10 and 11 of a trade, 0 where none of them is said (01, Trade, 1).
-fn party_refusal(expired: bool, held: usize, buyer: u8, seller: u8) -> u8
-    ensures { result ≡ party_number expired held buyer seller }
+// 5, 10 and 11 of a trade (01, Trade, 1).
+fn party_check(expired: bool, held: usize, buyer: u8, seller: u8) -> Result<(), Refusal>
+    ensures { number_in result ≡ party_number expired held buyer seller }
 {
     let bought = buyer as usize;
     let sold = seller as usize;
     if expired {
-        return EXPIRED;
+        return Err(Refusal::Expired);
     }
     if held <= bought {
-        return UNKNOWN_SECTION; // the buyer
+        return Err(Refusal::UnknownSection); // the buyer
     }
     if held <= sold {
-        return UNKNOWN_SECTION; // the seller
+        return Err(Refusal::UnknownSection); // the seller
     }
     if bought == sold {
-        return BUYER_IS_SELLER;
+        return Err(Refusal::BuyerIsSeller);
     }
-    ACCEPTED
+    Ok(())
 }
 
 // 12 and 13 of a trade (01, Trade, 1).
-fn size_refusal(r: u32, price: u32, lots: u32) -> u8
+#[tactic(auto, unfolding(rules::specs::Calls::first, rules::specs::Calls::size_refusals))]
+fn size_check(r: u32, price: u32, lots: u32) -> Result<(), Refusal>
     requires { 1 ≤ r }
-    ensures { result ≡ first (Rules.size_refusals r price lots) }
+    ensures { number_in result ≡ first (Rules.size_refusals r price lots) }
 {
     if !terms::counted(price, PRICE_MOST) {
-        return BAD_TRADE_PRICE;
+        return Err(Refusal::BadTradePrice);
     }
     if price % r != 0 {
-        return BAD_TRADE_PRICE;
+        return Err(Refusal::BadTradePrice);
     }
     if !terms::counted(lots, TRADE_LOTS_MOST) {
-        return BAD_TRADE_LOTS;
+        return Err(Refusal::BadTradeLots);
     }
-    ACCEPTED
+    Ok(())
 }
 
 // 14 and 15 of a trade between two sections (01, Trade, 1).
-fn room_refusal(s: Section, t: Section, trades: u32, lots: u32) -> u8
+fn room_check(s: Section, t: Section, trades: u32, lots: u32) -> Result<(), Refusal>
     requires { (nat_abs (position_of s) ≤ 1_000_000) × (nat_abs (position_of t) ≤ 1_000_000) × (lots ≤ 10_000) }
-    ensures { result ≡ room_number s t trades lots }
+    ensures { number_in result ≡ room_number s t trades lots }
 {
     if exceeds(s, lots as i64) {
-        return POSITION_EXCEEDED;
+        return Err(Refusal::PositionExceeded);
     }
     if exceeds(t, 0 - (lots as i64)) {
-        return POSITION_EXCEEDED;
+        return Err(Refusal::PositionExceeded);
     }
     if TRADES_MOST <= trades {
-        return TRADES_FULL;
+        return Err(Refusal::TradesFull);
     }
-    ACCEPTED
+    Ok(())
 }
 
 // The place of a section in a book; the last place where the number is that of none (01, Book, 1).
@@ -87,14 +86,12 @@ pub fn place(section: u8) -> usize
     ensures { result ≡ place_of section }
 {
     let last = SECTION_PLACES - 1;
-    let number = section as usize;
-    if last < number {
-        return last;
-    }
-    number
+    (section as usize).min(last)
 }
 
-// The number of a trade by what a good book says of it: marks and counts, and the sections at the places of the two (01, Trade, 1).
+// Whether a trade is accepted, or why it is refused, by what a good book says of it: marks and counts, and the sections at the places of the two (01, Trade, 1).
+// (Parts of a book, and no book: a block judges its trades in a loop, where no book is passed by value.)
+#[tactic(auto, unfolding(crate::specs::Offered::offered_number))]
 pub fn offered(
     expired: bool,
     held: usize,
@@ -106,25 +103,19 @@ pub fn offered(
     seller: u8,
     price: u32,
     lots: u32,
-) -> u8
+) -> Result<(), Refusal>
     requires { (1 ≤ r) × (nat_abs (position_of s) ≤ 1_000_000) × (nat_abs (position_of t) ≤ 1_000_000) }
-    ensures { result ≡ offered_number expired held r trades s t buyer seller price lots }
+    ensures { number_in result ≡ offered_number expired held r trades s t buyer seller price lots }
 {
-    let party = party_refusal(expired, held, buyer, seller);
-    if party != ACCEPTED {
-        return party;
-    }
-    let size = size_refusal(r, price, lots);
-    if size != ACCEPTED {
-        return size;
-    }
-    room_refusal(s, t, trades, lots)
+    party_check(expired, held, buyer, seller)?;
+    size_check(r, price, lots)?;
+    room_check(s, t, trades, lots)
 }
 
-// The number of a trade on a good book (01, Trade, 1).
-pub fn refusal(b: Book, buyer: u8, seller: u8, price: u32, lots: u32) -> u8
+// Whether a trade on a good book is accepted, or why it is refused (01, Trade, 1).
+pub fn check(b: Book, buyer: u8, seller: u8, price: u32, lots: u32) -> Result<(), Refusal>
     requires { good b ≡ true }
-    ensures { result ≡ Rules.trade_number b buyer seller price lots }
+    ensures { number_in result ≡ Rules.trade_number b buyer seller price lots }
 {
     let bought = place(buyer);
     let sold = place(seller);
@@ -153,26 +144,26 @@ fn moved(s: Section, lots: Lots, value: Kopecks) -> Section
     next
 }
 
-// The buyer's section after a trade of that number: moved by the lots where it is accepted, else as it was (01, Book, 3 and 7).
-pub fn bought(number: u8, s: Section, lots: u32, value: Kopecks) -> Section
-    requires { number ≡ 0 → Movable s lots value }
-    ensures { result ≡ handed_out number (Rules.moved s (record { 0 = pos lots }) value) s }
+// The buyer's section after a trade so answered: moved by the lots where it is accepted, else as it was (01, Book, 3 and 7).
+pub fn bought(answer: Result<(), Refusal>, s: Section, lots: u32, value: Kopecks) -> Section
+    requires { number_in answer ≡ 0 → Movable s lots value }
+    ensures { result ≡ handed_out (number_in answer) (Rules.moved s (record { 0 = pos lots }) value) s }
 {
-    if number != ACCEPTED {
-        return s;
+    match answer {
+        Ok(()) => moved(s, Lots(lots as i64), value),
+        Err(_) => s,
     }
-    moved(s, Lots(lots as i64), value)
 }
 
 // The seller's, which moves by as many the other way (01, Book, 3 and 7).
-pub fn sold(number: u8, s: Section, lots: u32, value: Kopecks) -> Section
-    requires { number ≡ 0 → Movable s lots value }
-    ensures { result ≡ handed_out number (Rules.moved s (record { 0 = neg_ℤ (pos lots) }) value) s }
+pub fn sold(answer: Result<(), Refusal>, s: Section, lots: u32, value: Kopecks) -> Section
+    requires { number_in answer ≡ 0 → Movable s lots value }
+    ensures { result ≡ handed_out (number_in answer) (Rules.moved s (record { 0 = neg_ℤ (pos lots) }) value) s }
 {
-    if number != ACCEPTED {
-        return s;
+    match answer {
+        Ok(()) => moved(s, Lots(0 - (lots as i64)), value),
+        Err(_) => s,
     }
-    moved(s, Lots(0 - (lots as i64)), value)
 }
 
 // The book after the trade: the buyer moves by the lots, the seller by as many the other way.
@@ -185,8 +176,8 @@ pub fn traded(b: Book, buyer: u8, seller: u8, price: u32, lots: u32) -> Book
     let from = seller as usize;
     let s = b.sections[to];
     let t = b.sections[from];
-    let buying = bought(ACCEPTED, s, lots, value);
-    let selling = sold(ACCEPTED, t, lots, value);
+    let buying = bought(Ok(()), s, lots, value);
+    let selling = sold(Ok(()), t, lots, value);
     let mut next = b;
     next.sections[to] = buying;
     next.sections[from] = selling;
@@ -194,20 +185,14 @@ pub fn traded(b: Book, buyer: u8, seller: u8, price: u32, lots: u32) -> Book
     next
 }
 
-// The book after a trade, or a refusal and the same book (01, Trade, 1; 01, Book, 5 and 6 and 7; 01, Bound, a).
-pub fn trade(b: Book, buyer: u8, seller: u8, price: u32, lots: u32) -> Answer
-    ensures { result ≡ Rules.trade_answer b buyer seller price lots }
+// The book after a trade, or a refusal (01, Trade, 1; 01, Book, 5 and 6 and 7; 01, Bound, a).
+#[tactic(auto, unfolding(rules::specs::Calls::first, rules::specs::Calls::party_refusals, rules::specs::Calls::trade_number, rules::specs::Calls::trade_answer))]
+pub fn trade(b: Book, buyer: u8, seller: u8, price: u32, lots: u32) -> Result<Book, Refusal>
+    ensures { answer_in b result ≡ Rules.trade_answer b buyer seller price lots }
 {
     if !judge::good(b) {
-        return Answer {
-            number: BAD_BOOK,
-            book: b,
-        };
+        return Err(Refusal::BadBook);
     }
-    let number = refusal(b, buyer, seller, price, lots);
-    if number != ACCEPTED {
-        return Answer { number, book: b };
-    }
-    let book = traded(b, buyer, seller, price, lots);
-    Answer { number, book }
+    check(b, buyer, seller, price, lots)?;
+    Ok(traded(b, buyer, seller, price, lots))
 }

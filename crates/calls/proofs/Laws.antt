@@ -6,23 +6,23 @@ use Rattle.rules.specs.File.{misshapen}
 use Rattle.rules.specs.Listing.{row}
 use Rattle.rules.specs.CallsListing.{shown_from, calls_printed}
 use Rattle.listing.proofs.Laws.Laid.{laid_length}
-use Rattle.file_calls.specs.declared.{Opening.Opening, Shown.Shown}
-use Rattle.file_calls.specs.Steps.{Opens, Stands, Steps}
+use Rattle.file_opening.specs.declared.{Opening.Opening}
+use Rattle.file_calls.specs.declared.{Shown.Shown}
+use Rattle.file_calls.specs.Steps.{Started, Stands, Steps}
 use Rattle.program_io.proofs.Start.{start}
 use Rattle.calls.specs.Printing.{Printing}
 
 -- the start: nothing is done (01, Reading, 1)
-pub printing_start : {file was now : List ℕ} {o : Opening} → Opens file was now o → o.number ≡ 0 → Printing file o.events 0 o.book
-printing_start {file = file} {o = a} o z =
-    let started = o.accepted z in
-    let none : a.events ≡ a.events - 0 = omega arith in
+pub printing_start : {file was now : List ℕ} {o : Opening} → Started file was now o → Printing file o.events 0 o.book
+printing_start {file = file} {o = o} started =
+    let none : o.events ≡ o.events - 0 = omega arith in
     record {
-      shaped = started.shaped;
-      events = started.events;
+      shaped = started.opened.shaped;
+      events = started.opened.events_are;
       within = omega arith;
-      book = started.good_book;
+      book = started.opened.good_book;
       done = [];
-      whole = started.shown ∙ ap (λ (left : ℕ). shown_from file left 0 a.book) none;
+      whole = started.shown ∙ ap (λ (left : ℕ). shown_from file left 0 o.book) none;
     }
 
 module _ {file : List ℕ} {n place : ℕ} {b : Book} (p : Printing file n place b) where

@@ -6,13 +6,13 @@ ghost use Rattle.calls.specs.Printing.{Printing};
 
 use program_io::INPUT_BYTES;
 use rules::book::Book;
-use rules::limits::ACCEPTED;
 use std::io;
 
 // The most bytes that a step prints: nine for each event, a block of them all (02, b, 3).
 const TEXT_BYTES: usize = 34_200;
 
 // The events one after the other, each with the book handed out just before. What a step prints is written out before the next one; after a failure nothing more is.
+// A step takes one event or several, and says where the next one starts: no `for` counts them.
 fn print_events(
     rt: &impl Print,
     file: &[u8],
@@ -36,14 +36,10 @@ fn print_events(
 
 fn print(rt: &impl Print, file: &[u8]) -> io::Result<()> {
     let mut out = [0; TEXT_BYTES];
-    let opening = file_calls::opened(file, &mut out);
-    let n = opening.events;
-    let written = opening.written;
-    let book = opening.book;
-    if opening.number != ACCEPTED {
-        return program_io::write_output(rt, &out[..written]);
+    match file_calls::opened(file, &mut out) {
+        Ok(opening) => print_events(rt, file, opening.events, opening.book, &mut out),
+        Err(away) => program_io::write_output(rt, &out[..away.written]),
     }
-    print_events(rt, file, n, book, &mut out)
 }
 
 fn main(rt: HostRuntime) -> io::Result<()> {

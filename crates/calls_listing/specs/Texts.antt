@@ -1,7 +1,8 @@
 -- The texts of `calls` over what the writer is lent.
 use Rattle.std.specs.Prelude.{ℕ, ◌+◌, List, [], ◌∷◌, cond, ltb, ℤ, length}
 use Rattle.rules.specs.Words.{flat_map, counted, entry, entry_ℤ, bytes, decimal, signed_decimal}
-use Rattle.rules.specs.declared.book.{Book.Book}
+use Rattle.rules.specs.declared.book.{Expired.Expired}
+use Rattle.rules.specs.Expiry.Call.{Lists}
 use Rattle.rules.specs.Listing.{row}
 use Rattle.rules.specs.CallsListing.{call_row, delivery_rows}
 use Rattle.listing.specs.Columns.{field, lots_fields}
@@ -26,12 +27,12 @@ abbrev pub counts_row : ℕ → ℕ → ℕ → List ℕ
 counts_row pairs lines kept = row (bytes "expiry" ∷ decimal pairs ∷ decimal lines ∷ decimal kept ∷ [])
 
 -- the rows of the lots of the sections held, by number (01, Program, 1; 02, a, 4)
-abbrev pub lots_rows : List ℕ → List ℕ → List ℕ → List ℕ → ℕ → List ℕ
-lots_rows codes delivered terminated lapsed held =
-    flat_map (λ (i : ℕ). lots_fields codes i (entry delivered i) (entry terminated i) (entry lapsed i) 10) (counted 0 held)
+abbrev pub lots_at : List ℕ → Lists → ℕ → List ℕ
+lots_at codes ls i = lots_fields codes i (entry ls.delivered i) (entry ls.terminated i) (entry ls.lapsed i) 10
 
--- what an expiry prints, its counts and lists by name (01, Expiry, 7; 01, Program, 1; 02, a, 4 and 6)
-abbrev pub delivery : Book → ℕ → ℕ → ℕ → List ℕ → List ℕ → List ℕ → List ℕ → List ℕ → List ℕ → List ℕ → List ℕ
-delivery b pairs lines kept buyers elevators sellers lots delivered terminated lapsed =
-    delivery_rows (record { number = 0; pairs = pairs; lines = lines; kept = kept; book = b })
-    (record { buyers = buyers; elevators = elevators; sellers = sellers; lots = lots; delivered = delivered; terminated = terminated; lapsed = lapsed })
+abbrev pub lots_rows : List ℕ → Lists → ℕ → List ℕ
+lots_rows codes ls held = flat_map (lots_at codes ls) (counted 0 held)
+
+-- what an accepted expiry prints (01, Expiry, 7; 01, Program, 1; 02, a, 4 and 6)
+abbrev pub delivery : Expired → Lists → List ℕ
+delivery e ls = delivery_rows (record { number = 0; pairs = e.pairs; lines = e.lines; kept = e.kept; book = e.book }) ls

@@ -22,11 +22,9 @@ pub fn wholes(numbers: &[i64], out: &mut [u8], at: usize) -> usize
     ensures { Laid out.old at (wholes numbers.now) out.new result }
 {
     let mut next = at;
-    let mut i = 0;
-    while i < numbers.len() {
+    for i in 0..numbers.len() {
         let end = end_of(i + 1, numbers.len());
         next = text::whole(numbers[i], end, out, next);
-        i += 1;
     }
     next
 }

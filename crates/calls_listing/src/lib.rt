@@ -3,13 +3,15 @@
 
 ghost use Rattle.std.specs.Prelude.{ℕ, ◌+◌, ◌≤◌, ◌<◌, length};
 ghost use Rattle.rules.specs.Words.{entry};
+ghost use Rattle.rules.specs.Lent.{lists_of};
 ghost use Rattle.rules.specs.CallsListing.{call_row, margins_row};
 ghost use Rattle.listing.specs.Laid.{Laid};
 ghost use Rattle.calls_listing.specs.Texts.{answer_rows, counts_row, delivery};
 
 use listing::text::{LINE_END, SPACE};
 use listing::{codes, rows, text};
-use rules::book::Book;
+use rules::book::Expired;
+use rules::lists::ExpiryLists;
 
 mod fields;
 mod lots;
@@ -29,10 +31,8 @@ pub fn answers(place: usize, numbers: &[u8], out: &mut [u8]) -> usize
     ensures { Laid out.old 0 (answer_rows place numbers.now) out.new result }
 {
     let mut next = 0;
-    let mut i = 0;
-    while i < numbers.len() {
+    for i in 0..numbers.len() {
         next = call(place + i, numbers[i], out, next);
-        i += 1;
     }
     next
 }
@@ -60,34 +60,22 @@ fn counts(pairs: usize, lines: usize, kept: usize, out: &mut [u8], at: usize) ->
 
 // An expiry: how many pairs and lines were formed, how many lines are kept, these lines, and each section's lots
 // (01, Expiry, 7; 01, Program, 1; 02, a, 4 and 6).
-pub fn delivered(
-    b: Book,
-    pairs: usize,
-    lines: usize,
-    kept: usize,
-    buyers: &[u8],
-    elevators: &[u8],
-    sellers: &[u8],
-    lots: &[u32],
-    delivered: &[u32],
-    terminated: &[u32],
-    lapsed: &[u32],
-    out: &mut [u8],
-    at: usize,
-) -> usize
-    requires held_bound { (b.held ≤ 128) × (b.lot.0 ≤ 1_000) }
-    requires kept_in_bounds { (kept ≤ length buyers.now) × (kept ≤ length elevators.now) × (kept ≤ length sellers.now) × (kept ≤ length lots.now) }
-    requires held_in_bounds { (b.held ≤ length delivered.now) × (b.held ≤ length terminated.now) × (b.held ≤ length lapsed.now) }
-    requires by_index { (i : ℕ) → i < kept → (entry buyers.now i < 128) × (entry sellers.now i < 128) × (entry lots.now i ≤ 1_000_000) }
-    requires lapsed_in_bounds { at + length (delivery b pairs lines kept buyers.now elevators.now sellers.now lots.now delivered.now terminated.now lapsed.now) ≤ length out.old }
-    ensures { Laid out.old at (delivery b pairs lines kept buyers.now elevators.now sellers.now lots.now delivered.now terminated.now lapsed.now) out.new result }
+pub fn delivered(expired: Expired, lists: &ExpiryLists, out: &mut [u8], at: usize) -> usize
+    requires held_bound { (expired.book.held ≤ 128) × (expired.book.lot.0 ≤ 1_000) }
+    requires kept_in_bounds { (expired.kept ≤ length lists.now.buyers.now) × (expired.kept ≤ length lists.now.elevators.now) × (expired.kept ≤ length lists.now.sellers.now) × (expired.kept ≤ length lists.now.lots.now) }
+    requires held_in_bounds { (expired.book.held ≤ length lists.now.delivered.now) × (expired.book.held ≤ length lists.now.terminated.now) × (expired.book.held ≤ length lists.now.lapsed.now) }
+    requires by_index { (i : ℕ) → i < expired.kept → (entry lists.now.buyers.now i < 128) × (entry lists.now.sellers.now i < 128) × (entry lists.now.lots.now i ≤ 1_000_000) }
+    requires lapsed_in_bounds { at + length (delivery expired (lists_of lists.now)) ≤ length out.old }
+    ensures { Laid out.old at (delivery expired (lists_of lists.now)) out.new result }
 {
-    let lot = b.lot;
-    let held = b.held;
+    let lines = expired.lines;
+    let kept = expired.kept;
+    let lot = expired.book.lot;
+    let held = expired.book.held;
     let mut codes = [0; 896];
-    codes::laid(b, &mut codes);
-    let at = counts(pairs, lines, kept, out, at);
+    codes::laid(expired.book, &mut codes);
+    let at = counts(expired.pairs, lines, kept, out, at);
     let at = rows::head(kept, out, at);
-    let at = rows::lines(&codes, buyers, elevators, sellers, lots, lot, kept, out, at);
-    lots::sections(&codes, delivered, terminated, lapsed, held, out, at)
+    let at = rows::lines(&codes, lists, lot, kept, out, at);
+    lots::sections(&codes, lists, held, out, at)
 }

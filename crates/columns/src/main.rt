@@ -2,19 +2,20 @@
 #![tactic(auto)]
 
 ghost use Rattle.std.specs.Prelude.{◌≡◌, ◌≤◌, length, cond};
+ghost use Rattle.rules.specs.Answers.{number_in};
 ghost use Rattle.rules.specs.Columns.{turn_number, turn_written, turn_back_written, turn_printed};
 ghost use Rattle.listing.specs.Laid.{Laid};
 
 use program_io::INPUT_BYTES;
-use rules::limits::ACCEPTED;
+use rules::refusal::Refusal;
 use std::io;
 use way::Way;
 
 mod way;
 
 // The call that is asked for.
-fn turned(back: bool, file: &[u8], lent: &mut [u8]) -> u8
-    ensures value { result ≡ turn_number (length file.now) (length lent.old) }
+fn turned(back: bool, file: &[u8], lent: &mut [u8]) -> Result<(), Refusal>
+    ensures value { number_in result ≡ turn_number (length file.now) (length lent.old) }
     ensures lent_after { lent.new ≡ cond back (turn_back_written file.now lent.old) (turn_written file.now lent.old) }
 {
     if back {
@@ -29,11 +30,13 @@ fn printed(back: bool, file: &[u8], out: &mut [u8]) -> usize
     ensures { Laid out.old 0 (turn_printed back file.now) out.new result }
 {
     let length = file.len();
-    let number = turned(back, file, &mut out[..length]);
-    if number != ACCEPTED {
-        return listing::refusal(number, out, 0);
+    match turned(back, file, &mut out[..length]) {
+        Ok(()) => length,
+        Err(refusal) => {
+            let number = listing::number_of(refusal);
+            listing::refusal(number, out, 0)
+        }
     }
-    length
 }
 
 fn print(rt: &impl Print, back: bool, file: &[u8]) -> io::Result<()>

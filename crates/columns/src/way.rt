@@ -4,7 +4,7 @@ ghost use Rattle.rules.specs.Words.{same, bytes};
 ghost use Rattle.columns.specs.Way.{way_asked};
 
 // A file is turned, or one by column is turned back; or the arguments ask for neither.
-#[derive(Drop)]
+#[derive(Clone, Copy, Debug, PartialEq, Eq)]
 pub enum Way {
     Forth,
     Back,
@@ -15,10 +15,7 @@ pub enum Way {
 fn is_back(word: &[u8]) -> bool
     ensures { result ≡ same word.now (bytes "back") }
 {
-    if word.len() != 4 {
-        return false;
-    }
-    (word[0] == b'b') & ((word[1] == b'a') & ((word[2] == b'c') & (word[3] == b'k')))
+    word == b"back".as_slice()
 }
 
 // By how many words the program was given, its name first, and the second one: `back` alone, or none.

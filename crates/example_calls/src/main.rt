@@ -3,8 +3,10 @@
 // past the last line. Then calls that are refused, one of them on the book of noughts.
 #![tactic(auto)]
 
-use rules::book::{Answer, Book, ExpiryAnswer};
+use rules::book::{Book, Expired};
 use rules::limits::REGISTER_PLACES;
+use rules::lists::ExpiryLists;
+use rules::refusal::Refusal;
 use std::io;
 use std::io::Print;
 use value::signed;
@@ -30,38 +32,66 @@ fn added(x: i64, y: i64) -> i64 {
     signed::sum(x, y)
 }
 
-fn answered(rt: &impl Print, name: &[u8], a: Answer) -> io::Result<Book> {
-    row(rt, name, a.number)?;
-    Ok(a.book)
+// The number of a call on a book, and the book to go on with.
+fn answered(
+    rt: &impl Print,
+    name: &[u8],
+    b: Book,
+    answer: Result<Book, Refusal>,
+) -> io::Result<Book> {
+    match answer {
+        Ok(book) => {
+            row(rt, name, 0)?;
+            Ok(book)
+        }
+        Err(refusal) => {
+            row(rt, name, refusal as u8)?;
+            Ok(b)
+        }
+    }
 }
 
 fn with_sections(rt: &impl Print, b: Book) -> io::Result<Book> {
     let one = answered(
         rt,
         b"section",
+        b,
         call_section::open_section(b, 1, *b"A000001", 1, false),
     )?;
     let two = answered(
         rt,
         b"section",
+        one,
         call_section::open_section(one, 1, *b"A000002", 2, true),
     )?;
     let three = answered(
         rt,
         b"section",
+        two,
         call_section::open_section(two, 2, *b"B000001", 3, true),
     )?;
     answered(
         rt,
         b"section",
+        three,
         call_section::open_section(three, 3, *b"C000001", 4, false),
     )
 }
 
 fn with_trades(rt: &impl Print, b: Book) -> io::Result<Book> {
-    let one = answered(rt, b"trade", call_trade::trade(b, 0, 1, 1_500_000, 2))?;
-    let two = answered(rt, b"trade", call_trade::trade(one, 0, 2, 1_500_000, 3))?;
-    answered(rt, b"trade", call_trade::trade(two, 3, 2, 1_510_000, 3))
+    let one = answered(rt, b"trade", b, call_trade::trade(b, 0, 1, 1_500_000, 2))?;
+    let two = answered(
+        rt,
+        b"trade",
+        one,
+        call_trade::trade(one, 0, 2, 1_500_000, 3),
+    )?;
+    answered(
+        rt,
+        b"trade",
+        two,
+        call_trade::trade(two, 3, 2, 1_510_000, 3),
+    )
 }
 
 fn with_session(rt: &impl Print, b: Book) -> io::Result<Book> {
@@ -69,6 +99,7 @@ fn with_session(rt: &impl Print, b: Book) -> io::Result<Book> {
     let held = answered(
         rt,
         b"session",
+        b,
         call_session::hold_session(b, 1_520_000, &mut margins),
     )?;
     amount(rt, b"margin", margins[0])?;
@@ -82,20 +113,32 @@ fn with_session(rt: &impl Print, b: Book) -> io::Result<Book> {
 }
 
 fn with_notices(rt: &impl Print, b: Book) -> io::Result<Book> {
-    let one = answered(rt, b"condition", call_condition::set_condition(b, 0, true))?;
+    let one = answered(
+        rt,
+        b"condition",
+        b,
+        call_condition::set_condition(b, 0, true),
+    )?;
     let two = answered(
         rt,
         b"condition",
+        one,
         call_condition::set_condition(one, 1, true),
     )?;
     let three = answered(
         rt,
         b"condition",
+        two,
         call_condition::set_condition(two, 2, true),
     )?;
-    let four = answered(rt, b"notice", call_notice::file_notice(three, 1, 0, 2))?;
-    let five = answered(rt, b"notice", call_notice::file_notice(four, 2, 4, 2))?;
-    answered(rt, b"notice", call_notice::file_notice(five, 2, 1, 4))
+    let four = answered(
+        rt,
+        b"notice",
+        three,
+        call_notice::file_notice(three, 1, 0, 2),
+    )?;
+    let five = answered(rt, b"notice", four, call_notice::file_notice(four, 2, 4, 2))?;
+    answered(rt, b"notice", five, call_notice::file_notice(five, 2, 1, 4))
 }
 
 fn numbers(
@@ -132,13 +175,20 @@ fn line(rt: &impl Print, buyer: u8, elevator: u8, seller: u8, lots: u32) -> io::
     )
 }
 
-fn counts(rt: &impl Print, a: ExpiryAnswer) -> io::Result<Book> {
-    row(rt, b"expiry", a.number)?;
-    let pairs = a.pairs;
-    let lines = a.lines;
-    let kept = a.kept;
-    println!(rt; "pairs, lines, kept {pairs} {lines} {kept}")?;
-    Ok(a.book)
+// The number and the counts of an expiry on a book, and the book to go on with.
+fn counts(rt: &impl Print, b: Book, answer: Result<Expired, Refusal>) -> io::Result<Book> {
+    match answer {
+        Ok(e) => {
+            row(rt, b"expiry", 0)?;
+            println!(rt; "pairs, lines, kept {} {} {}", e.pairs, e.lines, e.kept)?;
+            Ok(e.book)
+        }
+        Err(refusal) => {
+            row(rt, b"expiry", refusal as u8)?;
+            println!(rt; "pairs, lines, kept 0 0 0")?;
+            Ok(b)
+        }
+    }
 }
 
 fn with_expiry(rt: &impl Print, b: Book) -> io::Result<Book> {
@@ -149,23 +199,19 @@ fn with_expiry(rt: &impl Print, b: Book) -> io::Result<Book> {
     let mut delivered = [99u32; 4];
     let mut terminated = [99u32; 4];
     let mut lapsed = [99u32; 4];
-    let expired = counts(
-        rt,
-        call_expiry::expiry(
-            b,
-            &mut buyers,
-            &mut elevators,
-            &mut sellers,
-            &mut lots,
-            &mut delivered,
-            &mut terminated,
-            &mut lapsed,
-        ),
-    )?;
-    line(rt, buyers[0], elevators[0], sellers[0], lots[0])?;
-    line(rt, buyers[1], elevators[1], sellers[1], lots[1])?;
-    line(rt, buyers[2], elevators[2], sellers[2], lots[2])?;
-    line(rt, buyers[3], elevators[3], sellers[3], lots[3])?;
+    let mut lists = ExpiryLists {
+        buyers: &mut buyers,
+        elevators: &mut elevators,
+        sellers: &mut sellers,
+        lots: &mut lots,
+        delivered: &mut delivered,
+        terminated: &mut terminated,
+        lapsed: &mut lapsed,
+    };
+    let expired = counts(rt, b, call_expiry::expiry(b, &mut lists))?;
+    for i in 0..4 {
+        line(rt, buyers[i], elevators[i], sellers[i], lots[i])?;
+    }
     sections(rt, b"delivered", delivered)?;
     sections(rt, b"terminated", terminated)?;
     sections(rt, b"lapsed", lapsed)?;
@@ -173,18 +219,25 @@ fn with_expiry(rt: &impl Print, b: Book) -> io::Result<Book> {
 }
 
 fn main(rt: HostRuntime) -> io::Result<()> {
-    let opened = answered(&rt, b"opening", call_opening::open(25, 2_500, 100))?;
+    let none = call_opening::blank_book(0, 0, 0);
+    let opened = answered(&rt, b"opening", none, call_opening::open(25, 2_500, 100))?;
     let sections_held = with_sections(&rt, opened)?;
     let traded = with_trades(&rt, sections_held)?;
     let after_session = with_session(&rt, traded)?;
     let held = with_notices(&rt, after_session)?;
-    answered(&rt, b"notice", call_notice::file_notice(held, 2, 1, 1))?;
+    answered(
+        &rt,
+        b"notice",
+        held,
+        call_notice::file_notice(held, 2, 1, 1),
+    )?;
     let expired = with_expiry(&rt, held)?;
     with_expiry(&rt, expired)?;
-    let refused = answered(&rt, b"opening", call_opening::open(25, 1, 200_001))?;
+    let refused = answered(&rt, b"opening", none, call_opening::open(25, 1, 200_001))?;
     answered(
         &rt,
         b"condition",
+        refused,
         call_condition::set_condition(refused, 0, true),
     )?;
     Ok(())

@@ -9,6 +9,10 @@ use std::io::Print;
 
 mod rows;
 
+fn event(rt: &impl Print, file: &mut [u8], place: usize, event: Event) -> io::Result<()> {
+    rows::answer(rt, write::event(file, place, event))
+}
+
 fn section(
     rt: &impl Print,
     file: &mut [u8],
@@ -18,16 +22,13 @@ fn section(
     code: [u8; 7],
     participant: u32,
 ) -> io::Result<()> {
-    let event = Event::Section {
+    let values = Event::Section {
         settlement,
         seller,
+        code,
         participant,
     };
-    rows::answer(rt, write::event(file, place, event, code))
-}
-
-fn event(rt: &impl Print, file: &mut [u8], place: usize, event: Event) -> io::Result<()> {
-    rows::answer(rt, write::event(file, place, event, [0; 7]))
+    event(rt, file, place, values)
 }
 
 fn trade(
@@ -101,10 +102,8 @@ fn fill(rt: &impl Print, file: &mut [u8]) -> io::Result<()> {
 }
 
 fn operands(rt: &impl Print, file: &[u8]) -> io::Result<()> {
-    let mut i = 0;
-    while i < 16 {
+    for i in 0..16 {
         rows::hex(rt, read::operand(file, i))?;
-        i += 1;
     }
     Ok(())
 }

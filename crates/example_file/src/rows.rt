@@ -1,19 +1,22 @@
 // Rows of the program's output.
-use rules::events::{Event, Found};
+use file_reader::Reader;
+use rules::events::Event;
+use rules::refusal::Refusal;
 use std::io;
 use std::io::Print;
 
 // What a write answered.
-pub fn answer(rt: &impl Print, number: u8) -> io::Result<()> {
+pub fn answer(rt: &impl Print, written: Result<(), Refusal>) -> io::Result<()> {
+    let number = match written {
+        Ok(()) => 0,
+        Err(refusal) => refusal as u8,
+    };
     println!(rt; "answer {number}")
 }
 
 pub fn hex(rt: &impl Print, bytes: &[u8]) -> io::Result<()> {
-    let mut i = 0;
-    while i < bytes.len() {
-        let byte = bytes[i];
+    for byte in bytes {
         print!(rt; "{byte:02x}")?;
-        i += 1;
     }
     rt.write_all(b"\n")
 }
@@ -61,11 +64,12 @@ fn expiry(rt: &impl Print) -> io::Result<()> {
     rt.write_all(b"expiry")
 }
 
-fn event(rt: &impl Print, event: Event, code: [u8; 7]) -> io::Result<()> {
+fn event(rt: &impl Print, event: Event) -> io::Result<()> {
     match event {
         Event::Section {
             settlement,
             seller,
+            code,
             participant,
         } => section(rt, settlement, seller, &code, participant)?,
         Event::Trade {
@@ -86,25 +90,23 @@ fn event(rt: &impl Print, event: Event, code: [u8; 7]) -> io::Result<()> {
     rt.write_all(b"\n")
 }
 
-fn refused(rt: &impl Print, found: Found) -> io::Result<()> {
-    if let Found::Refused(number) = found {
-        return println!(rt; "refused {number}");
+fn refused(rt: &impl Print, found: Result<Event, Refusal>) -> io::Result<()> {
+    if let Err(refusal) = found {
+        return println!(rt; "refused {}", refusal as u8);
     }
     Ok(())
 }
 
 // Each event by the number that the last read answered, up to a refusal.
 pub fn events(rt: &impl Print, file: &[u8]) -> io::Result<()> {
-    let mut i = 0;
-    while i < 3_801 {
-        let answer = file_reader::event(file, i);
-        let found = answer.found;
-        let Found::Values(values) = found else {
-            return refused(rt, found);
+    let mut reader = Reader::new(file);
+    for _ in 0..3_801 {
+        let read = reader.next();
+        let Ok(values) = read.found else {
+            return refused(rt, read.found);
         };
-        let code = answer.code;
-        event(rt, values, code)?;
-        i = answer.next;
+        event(rt, values)?;
+        reader = reader.moved(read.next);
     }
     Ok(())
 }

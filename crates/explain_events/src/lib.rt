@@ -5,5 +5,4 @@ pub mod events;
 pub mod refusal;
 pub mod session;
 pub mod shape;
-pub mod told;
 pub mod trade;

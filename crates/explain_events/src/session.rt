@@ -1,23 +1,30 @@
 // A session in words: its value, and each section's margin.
-use crate::told;
-use crate::told::Told;
+use explain_row::row::Rows;
 use explain_row::{rounding, row};
 use list_leaves::{changed, entries};
 use rules::book::{Book, LastSession, Section};
-use rules::limits::{ACCEPTED, SECTION_PLACES};
+use rules::limits::SECTION_PLACES;
+use rules::refusal::Refusal;
 use std::io;
 use std::io::Print;
 use value::signed;
 
+// What the sessions so far come to: each section's margins over all of them, how many there were, and in how many the margins sum to zero (01, Reading, 5).
+#[derive(Drop)]
+pub struct Sessions {
+    pub sums: [i64; SECTION_PLACES],
+    pub held: u64,
+    pub zero: u64,
+}
+
 // A section's row: position, basis, margin, the margins summed down to this section, and its own over all sessions (01, Session, 3).
 fn margin_row(
-    rt: &impl Print,
+    rows: &Rows<impl Print>,
     s: Section,
     i: usize,
     margin: i64,
     down: i64,
     all: i64,
-    names: &[u8],
 ) -> io::Result<()> {
     let position = s.position.0;
     let basis = s.basis.0;
@@ -34,96 +41,67 @@ fn margin_row(
         row::minus(all),
         signed::size(all),
     ];
-    row::say(rt, names, b"    @ ~# ~# ~# ~# ~#\n", &numbers)
+    rows.say(b"    @ ~# ~# ~# ~# ~#\n", &numbers)
 }
 
-// The rows of the sections held; the margins are added to each section's sum, and to the session's (01, Session, 3; 01, Reading, 5).
+// The rows of the sections held; the margins are added to each section's sum. The answer is what they sum to (01, Session, 3; 01, Reading, 5).
 fn margin_rows(
-    rt: &impl Print,
-    b: Book,
+    rows: &Rows<impl Print>,
+    b: &Book,
     margins: &[i64; SECTION_PLACES],
-    names: &[u8],
     sums: &mut [i64; SECTION_PLACES],
-    total: &mut [i64; 1],
-) -> io::Result<()> {
-    let held = b.held;
-    let mut i = 0;
-    while i < SECTION_PLACES {
-        if held <= i {
-            return Ok(());
-        }
-        let s = b.sections[i];
-        let margin = entries::nth_signed(margins, i);
+) -> io::Result<i64> {
+    let mut total: i64 = 0;
+    for (i, s) in b.sections.iter().take(b.held).enumerate() {
+        let margin = entries::nth(margins, i);
+        total = total.saturating_add(margin);
         changed::add(sums, i, margin);
-        changed::add(total, 0, margin);
-        let down = entries::nth_signed(total, 0);
-        let all = entries::nth_signed(sums, i);
-        margin_row(rt, s, i, margin, down, all, names)?;
-        i += 1;
+        margin_row(rows, *s, i, margin, total, entries::nth(sums, i))?;
     }
-    Ok(())
+    Ok(total)
 }
 
 // The session's own row: day or evening, and its price (01, Session, 2).
-fn head(rt: &impl Print, last: LastSession, place: usize, price: u32) -> io::Result<()> {
+fn head(rows: &Rows<impl Print>, last: LastSession, place: usize, price: u32) -> io::Result<()> {
     let numbers = [place as u64, price as u64];
     match last {
-        LastSession::Evening => {
-            row::say(
-                rt,
-                &[],
-                b"# session: evening, price P #; V = P*K/100000\n",
-                &numbers,
-            )
-        }
-        LastSession::Day => {
-            row::say(
-                rt,
-                &[],
-                b"# session: day, price P #; V = P*K/100000\n",
-                &numbers,
-            )
-        }
+        LastSession::Evening => rows.say(
+            b"# session: evening, price P #; V = P*K/100000\n",
+            &numbers,
+        ),
+        LastSession::Day => rows.say(b"# session: day, price P #; V = P*K/100000\n", &numbers),
         LastSession::None => Ok(()),
     }
 }
 
-// A session. `counts` has how many there were, and in how many of them the margins sum to zero (01, Session, 1 and 2 and 3).
+// A session (01, Session, 1 and 2 and 3).
 pub fn session(
-    rt: &impl Print,
+    rows: &Rows<impl Print>,
     b: Book,
     place: usize,
     k: u32,
     price: u32,
-    names: &[u8],
-    sums: &mut [i64; SECTION_PLACES],
-    counts: &mut [u64; 2],
-) -> io::Result<Told> {
+    sessions: &mut Sessions,
+) -> io::Result<Result<Book, Refusal>> {
     let mut margins = [0; SECTION_PLACES];
-    let mut total = [0; 1];
     let answer = call_session::hold_session(b, price, &mut margins);
-    if answer.number != ACCEPTED {
-        return Ok(told::answered(answer));
-    }
-    let book = answer.book;
-    let last = book.last;
-    head(rt, last, place, price)?;
-    rounding::value(rt, k, price)?;
-    row::words(
-        rt,
+    let Ok(book) = answer else {
+        return Ok(answer);
+    };
+    head(rows, book.last, place, price)?;
+    rounding::value(rows, k, price)?;
+    rows.words(
         b"    section, position, basis, margin = position*V - basis, session sum so far, section sum so far\n",
     )?;
-    margin_rows(rt, b, &margins, names, sums, &mut total)?;
-    let sum = total[0];
-    changed::raise(counts, 0, 1);
-    changed::raise(counts, 1, (sum == 0) as u64);
+    let sum = margin_rows(rows, &b, &margins, &mut sessions.sums)?;
+    sessions.held = sessions.held.saturating_add(1);
+    if sum == 0 {
+        sessions.zero = sessions.zero.saturating_add(1);
+    }
     let value = value::value(k, price).0;
-    let numbers = [row::minus(sum), signed::size(sum), signed::size(value)];
-    row::say(
-        rt,
-        names,
+    rows.say(
         b"    the margins of this session sum to ~#; each basis becomes position*#\n",
-        &numbers,
+        &[row::minus(sum), signed::size(sum), signed::size(value)],
     )?;
-    Ok(told::answered(answer))
+    Ok(answer)
 }

@@ -2,7 +2,7 @@
 ghost use Rattle.std.specs.Prelude.{◌≡◌, cond, leb};
 ghost use Rattle.rules.specs.Value;
 
-use crate::row;
+use crate::row::Rows;
 use rules::limits::{FACTOR_MOST, FACTOR_UNIT};
 use rules::rounding::Case;
 use std::io;
@@ -10,7 +10,7 @@ use std::io::Print;
 use value::rounding;
 
 // The product of two numbers, by a divisor: its quotient, its remainder, the case of it and the result.
-fn divided(rt: &impl Print, first: u64, second: u64, n: u64, d: u64) -> io::Result<()> {
+fn divided(rows: &Rows<impl Print>, first: u64, second: u64, n: u64, d: u64) -> io::Result<()> {
     let division = rounding::divided(n, d);
     let quotient = division.quotient;
     let remainder = division.remainder;
@@ -18,21 +18,15 @@ fn divided(rt: &impl Print, first: u64, second: u64, n: u64, d: u64) -> io::Resu
     let result = rounding::rounded(n, d);
     let numbers = [first, second, d, quotient, remainder, result];
     match case {
-        Case::BelowHalf => row::say(
-            rt,
-            &[],
+        Case::BelowHalf => rows.say(
             b"    #*#/#: quotient #, remainder #, below half: #\n",
             &numbers,
         ),
-        Case::AtHalf => row::say(
-            rt,
-            &[],
+        Case::AtHalf => rows.say(
             b"    #*#/#: quotient #, remainder #, at half, so up: #\n",
             &numbers,
         ),
-        Case::AboveHalf => row::say(
-            rt,
-            &[],
+        Case::AboveHalf => rows.say(
             b"    #*#/#: quotient #, remainder #, above half, so up: #\n",
             &numbers,
         ),
@@ -40,18 +34,18 @@ fn divided(rt: &impl Print, first: u64, second: u64, n: u64, d: u64) -> io::Resu
 }
 
 // K; with an R of 0 there is none (01, Value, 2).
-pub fn factor(rt: &impl Print, w: u32, r: u32) -> io::Result<()> {
+pub fn factor(rows: &Rows<impl Print>, w: u32, r: u32) -> io::Result<()> {
     if r == 0 {
-        return row::words(rt, b"    R is 0, and there is no K\n");
+        return rows.words(b"    R is 0, and there is no K\n");
     }
     let n = FACTOR_UNIT * (w as u64);
-    divided(rt, FACTOR_UNIT, w as u64, n, r as u64)
+    divided(rows, FACTOR_UNIT, w as u64, n, r as u64)
 }
 
 // V of a price (01, Value, 3).
-pub fn value(rt: &impl Print, k: u32, price: u32) -> io::Result<()> {
+pub fn value(rows: &Rows<impl Print>, k: u32, price: u32) -> io::Result<()> {
     let n = value::multiplied(price, k);
-    divided(rt, price as u64, k as u64, n, FACTOR_UNIT)
+    divided(rows, price as u64, k as u64, n, FACTOR_UNIT)
 }
 
 // K of W and R, 0 where it is beyond its limit (01, Opening, 1).

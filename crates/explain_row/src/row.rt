@@ -27,22 +27,6 @@ pub fn minus_left(z: i64, left: u64) -> u64
     if left == 0 { 0 } else { minus(z) }
 }
 
-// Where the row of the next byte starts.
-fn row_start(c: u8, i: usize, start: usize) -> usize
-    requires { (start ≤ i) × (i ≤ 3_584) }
-    ensures { result ≤ i + 1 }
-{
-    if c == LINE_END { i + 1 } else { start }
-}
-
-// The last blank up to a byte.
-fn last_blank(c: u8, i: usize, blank: usize) -> usize
-    requires { blank ≤ i }
-    ensures { result ≤ i }
-{
-    if c == SPACE { i } else { blank }
-}
-
 // A row that is full ends at its last blank; a byte that is no blank stays.
 fn end_row(text: &mut [u8], blank: usize, full: bool)
     requires { blank < length text.old }
@@ -54,12 +38,26 @@ fn end_row(text: &mut [u8], blank: usize, full: bool)
     }
 }
 
-// Where a row starts once one that is full has ended at a blank.
-fn start_after(start: usize, blank: usize, full: bool, i: usize) -> usize
-    requires { (start ≤ i + 1) × (blank ≤ i) × (i ≤ 3_584) }
-    ensures { result ≤ i + 1 }
+// Where the row of the next byte starts, and the last blank up to it.
+#[derive(Clone, Copy)]
+struct Row {
+    start: usize,
+    blank: usize,
+}
+
+// The row once a byte at i is read.
+fn after_byte(row: Row, c: u8, i: usize) -> Row
+    requires { (row.start ≤ i) × (row.blank ≤ i) × (i ≤ 3_584) }
+    ensures { (result.start ≤ i + 1) × (result.blank ≤ i) }
 {
-    if full { blank + 1 } else { start }
+    match c {
+        LINE_END => Row {
+            start: i + 1,
+            ..row
+        },
+        SPACE => Row { blank: i, ..row },
+        _ => row,
+    }
 }
 
 // Rows of more than 100 columns end at a blank.
@@ -67,47 +65,53 @@ fn fold(text: &mut [u8])
     requires { length text.old ≤ 3_584 }
     ensures { Folded text.old text.new }
 {
-    let all = text.len();
-    let mut start = 0;
-    let mut blank = 0;
-    let mut i = 0;
-    while i < all {
-        let c = text[i];
-        let from = row_start(c, i, start);
-        blank = last_blank(c, i, blank);
-        let full = (from + COLUMNS <= i) & (from < blank);
-        end_row(text, blank, full);
-        start = start_after(from, blank, full, i);
-        i += 1;
+    let mut row = Row { start: 0, blank: 0 };
+    for i in 0..text.len() {
+        row = after_byte(row, text[i], i);
+        let full = (row.start + COLUMNS <= i) & (row.start < row.blank);
+        end_row(text, row.blank, full);
+        if full {
+            row.start = row.blank + 1;
+        }
     }
 }
 
-// A text folded and written out.
-fn folded(rt: &impl Print, text: &mut [u8]) -> io::Result<()>
-    requires { length text.old ≤ 3_584 }
-{
-    fold(text);
-    rt.write_all(text)
+// Where rows are written, and the section codes end to end, which `@` of a template stands for.
+#[derive(Drop)]
+pub struct Rows<'a, P: Print> {
+    pub rt: &'a P,
+    pub names: &'a [u8],
 }
 
-// A template of at most 128 bytes, filled: `#` is the next number, `~` a minus sign where it is not 0, `@` the code of the section of that number.
-pub fn say(rt: &impl Print, names: &[u8], template: &[u8], numbers: &[u64]) -> io::Result<()>
-    requires { length template.now ≤ 128 }
-{
-    let mut out = [0; ROW_BYTES];
-    let count = template::fill(template, numbers, names, &mut out, 0);
-    folded(rt, &mut out[..count])
-}
-
-// A row of words alone.
-pub fn words(rt: &impl Print, text: &[u8]) -> io::Result<()> {
-    rt.write_all(text)
-}
-
-// With or without the seller mark.
-pub fn seller_mark(rt: &impl Print, seller: bool) -> io::Result<()> {
-    if seller {
-        return words(rt, b", seller mark");
+impl<'a, P: Print> Rows<'a, P> {
+    // A text folded and written out.
+    fn folded(&self, text: &mut [u8]) -> io::Result<()>
+        requires { length text.old ≤ 3_584 }
+    {
+        fold(text);
+        self.rt.write_all(text)
     }
-    words(rt, b", no seller mark")
+
+    // A template of at most 128 bytes, filled: `#` is the next number, `~` a minus sign where it is not 0, `@` the code of the section of that number. It is no
+    // `write!`, which could find its buffer too small: what a template comes to is known to fit.
+    pub fn say(&self, template: &[u8], numbers: &[u64]) -> io::Result<()>
+        requires { length template.now ≤ 128 }
+    {
+        let mut out = [0; ROW_BYTES];
+        let count = template::fill(template, numbers, self.names, &mut out, 0);
+        self.folded(&mut out[..count])
+    }
+
+    // A row of words alone.
+    pub fn words(&self, text: &[u8]) -> io::Result<()> {
+        self.rt.write_all(text)
+    }
+
+    // With or without the seller mark.
+    pub fn seller_mark(&self, seller: bool) -> io::Result<()> {
+        if seller {
+            return self.words(b", seller mark");
+        }
+        self.words(b", no seller mark")
+    }
 }

@@ -1,83 +1,56 @@
 // Sections that give lots, in words, in the order in which they give.
 use crate::codes;
 use explain_row::row;
-use list_leaves::{changed, entries};
+use explain_row::row::Rows;
+use list_leaves::entries;
+use method_account::giving::Giving;
+use method_columns::whole::Columns;
 use std::io;
 use std::io::Print;
+use value::signed;
 
 // That two sections had the same lots, and the lower section code came first (01, Expiry, 2.2; 000, 2.2.2).
-pub fn tie(rt: &impl Print, mine: u64, earlier: u64, i: usize, names: &[u8]) -> io::Result<()> {
-    if mine == earlier {
-        return row::say(
-            rt,
-            names,
+pub fn tie(rows: &Rows<impl Print>, own: u64, earlier: u64, i: usize) -> io::Result<()> {
+    if own == earlier {
+        return rows.say(
             b"    tie: @ has # lots too; the lower section code came first\n",
-            &[i as u64, mine],
+            &[i as u64, own],
         );
     }
     Ok(())
 }
 
-// What a section has, gives, and leaves of D(c) (01, Expiry, 2.2).
-fn giver(
-    rt: &impl Print,
-    i: usize,
-    mine: u64,
-    gives: u64,
-    c: u8,
-    gap: i64,
-    earlier: u64,
-    left: &mut [u64],
-    names: &[u8],
-) -> io::Result<()> {
-    if mine == 0 {
-        return Ok(());
-    }
-    let rest = changed::lower(left, c as usize, gives);
-    let numbers = [
-        i as u64,
-        mine,
-        gives,
-        row::minus_left(gap, rest),
-        rest,
-        c as u64,
-    ];
-    tie(rt, mine, earlier, i, names)?;
-    row::say(
-        rt,
-        names,
-        b"    @ has # lots and gives #; ~# left of D(#)\n",
-        &numbers,
-    )
-}
-
-// The lots of the section that came last in the order, where it has any.
-pub fn latest(mine: u64, earlier: u64) -> u64 {
-    if mine == 0 { earlier } else { mine }
-}
-
-// The sections of settlement code c that may give, each with what is left of D(c) after it (01, Expiry, 2.2).
+// The sections of settlement code c that may give, each with what it has, gives, and leaves of D(c); the answer is what is left in the end (01, Expiry, 2.2).
 pub fn givers(
-    rt: &impl Print,
-    codes: &[u8],
-    lots: &[u64],
-    order: &[usize],
-    given: &[u64],
+    rows: &Rows<impl Print>,
+    columns: &Columns,
+    giving: &Giving,
     held: usize,
     c: u8,
     gap: i64,
-    left: &mut [u64],
-    names: &[u8],
-) -> io::Result<()> {
+) -> io::Result<u64> {
+    let mut left = signed::size(gap);
     let mut earlier = 0;
-    let mut k = 0;
-    while k < held {
-        let i = entries::nth_place(order, k);
-        let mine = codes::lots_in(codes, lots, c, i);
-        let gives = entries::nth(given, i);
-        giver(rt, i, mine, gives, c, gap, earlier, left, names)?;
-        earlier = latest(mine, earlier);
-        k += 1;
+    for i in giving.order.iter().take(held) {
+        let own = codes::lots_in(&columns.codes, &giving.lots, c, *i);
+        if own == 0 {
+            continue;
+        }
+        let gives = entries::nth(&giving.given, *i);
+        left = left.saturating_sub(gives);
+        tie(rows, own, earlier, *i)?;
+        earlier = own;
+        rows.say(
+            b"    @ has # lots and gives #; ~# left of D(#)\n",
+            &[
+                *i as u64,
+                own,
+                gives,
+                row::minus_left(gap, left),
+                left,
+                c as u64,
+            ],
+        )?;
     }
-    Ok(())
+    Ok(left)
 }

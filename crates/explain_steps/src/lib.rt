@@ -3,6 +3,7 @@
 
 mod codes;
 pub mod expiry;
+mod formed;
 mod giving;
 mod stage_one;
 mod stage_two;

@@ -2,7 +2,8 @@
 ghost use Rattle.std.specs.Prelude.{◌≡◌};
 ghost use Rattle.rules.specs.Words.{entry};
 
-use explain_row::row;
+use crate::formed::Formed;
+use explain_row::row::Rows;
 use list_leaves::{changed, entries, found};
 use method_passes::pairs::Pairs;
 use rules::limits::{ELEVATORS, SECTION_PLACES};
@@ -17,86 +18,68 @@ struct Pair {
     lots: u64,
 }
 
-// A buyer of the pass.
-fn buyer(rt: &impl Print, i: usize, lots: u64, names: &[u8]) -> io::Result<()> {
-    if lots == 0 {
-        return Ok(());
-    }
-    row::say(rt, names, b"  buyer @ has # lots\n", &[i as u64, lots])
+// What is left of a pass's buyers and elevators.
+#[derive(Drop)]
+pub struct Left {
+    pub bought: [u64; SECTION_PLACES],
+    pub stocks: [u64; ELEVATORS],
 }
 
 // The buyers with lots (01, Expiry, 6.1).
-pub fn buyers(rt: &impl Print, lots: &[u64], names: &[u8]) -> io::Result<()> {
-    let all = lots.len();
-    let mut i = 0;
-    while i < all {
-        buyer(rt, i, entries::nth(lots, i), names)?;
-        i += 1;
+pub fn buyers(rows: &Rows<impl Print>, bought: &[u64]) -> io::Result<()> {
+    for (i, lots) in bought.iter().enumerate() {
+        if 0 < *lots {
+            rows.say(b"  buyer @ has # lots\n", &[i as u64, *lots])?;
+        }
     }
     Ok(())
 }
 
-// An elevator of the pass.
-fn elevator(rt: &impl Print, e: usize, lots: u64) -> io::Result<()> {
-    if lots == 0 {
-        return Ok(());
-    }
-    row::say(rt, &[], b"  elevator # has # lots\n", &[e as u64, lots])
-}
-
 // The elevators with lots, what is drawn of the notices at each for this pass (01, Expiry, 6.2).
-pub fn elevators(rt: &impl Print, stocks: &[u64]) -> io::Result<()> {
-    let mut e = 0;
-    while e < ELEVATORS {
-        elevator(rt, e, entries::nth(stocks, e))?;
-        e += 1;
+pub fn elevators(rows: &Rows<impl Print>, stocks: &[u64]) -> io::Result<()> {
+    for (e, lots) in stocks.iter().enumerate() {
+        if 0 < *lots {
+            rows.say(b"  elevator # has # lots\n", &[e as u64, *lots])?;
+        }
     }
     Ok(())
 }
 
 // That several buyers had most lots (01, Expiry, 6.4).
-fn buyers_tied(rt: &impl Print, tied: usize, lots: u64, buyer: u8, names: &[u8]) -> io::Result<()> {
+fn buyers_tied(rows: &Rows<impl Print>, tied: usize, lots: u64, buyer: u8) -> io::Result<()> {
     if tied < 2 {
         return Ok(());
     }
-    row::say(
-        rt,
-        names,
+    rows.say(
         b"    tie: # buyers have # lots; the lowest section code, @, is taken\n",
         &[tied as u64, lots, buyer as u64],
     )
 }
 
 // That several elevators had most lots (01, Expiry, 6.4).
-fn elevators_tied(rt: &impl Print, tied: usize, lots: u64, elevator: u8) -> io::Result<()> {
+fn elevators_tied(rows: &Rows<impl Print>, tied: usize, lots: u64, elevator: u8) -> io::Result<()> {
     if tied < 2 {
         return Ok(());
     }
-    row::say(
-        rt,
-        &[],
+    rows.say(
         b"    tie: # elevators have # lots; the lowest number, #, is taken\n",
         &[tied as u64, lots, elevator as u64],
     )
 }
 
 // A pair: what its buyer and its elevator had, and what is left of both (01, Expiry, 6.2; 000, 2.5).
-fn pair_row(
-    rt: &impl Print,
-    number: u64,
-    buyer: u8,
-    elevator: u8,
-    lots: u64,
-    bought: &mut [u64; SECTION_PLACES],
-    stocks: &mut [u64; ELEVATORS],
-    names: &[u8],
-) -> io::Result<()> {
-    let has = entries::nth(bought, buyer as usize);
-    let stands = entries::nth(stocks, elevator as usize);
-    buyers_tied(rt, found::alike(bought, has), has, buyer, names)?;
-    elevators_tied(rt, found::alike(stocks, stands), stands, elevator)?;
-    let left = changed::lower(bought, buyer as usize, lots);
-    let rest = changed::lower(stocks, elevator as usize, lots);
+fn pair_row(rows: &Rows<impl Print>, number: u64, pair: Pair, left: &mut Left) -> io::Result<()> {
+    let Pair {
+        buyer,
+        elevator,
+        lots,
+    } = pair;
+    let has = entries::nth(&left.bought, buyer as usize);
+    let stands = entries::nth(&left.stocks, elevator as usize);
+    buyers_tied(rows, found::alike(&left.bought, has), has, buyer)?;
+    elevators_tied(rows, found::alike(&left.stocks, stands), stands, elevator)?;
+    let rest = changed::lower(&mut left.bought, buyer as usize, lots);
+    let more = changed::lower(&mut left.stocks, elevator as usize, lots);
     let numbers = [
         number,
         buyer as u64,
@@ -104,74 +87,37 @@ fn pair_row(
         elevator as u64,
         stands,
         lots,
-        left,
         rest,
+        more,
     ];
-    row::say(
-        rt,
-        names,
+    rows.say(
         b"  pair #: @ with # and elevator # with #: # lots; left # and #\n",
         &numbers,
     )
 }
 
 // Pair p of a pass.
-fn pair_at(ps: Pairs, p: usize) -> Pair
-    ensures { (result.buyer ≡ entry ps.buyers p) × (result.elevator ≡ entry ps.elevators p) × (result.lots ≡ entry ps.lots p) }
+fn pair_at(pairs: &Pairs, p: usize) -> Pair
+    ensures { (result.buyer ≡ entry pairs.now.buyers p) × (result.elevator ≡ entry pairs.now.elevators p) × (result.lots ≡ entry pairs.now.lots p) }
 {
-    let buyers = ps.buyers;
-    let elevators = ps.elevators;
-    let lots = ps.lots;
     Pair {
-        buyer: entries::nth_byte(&buyers, p),
-        elevator: entries::nth_byte(&elevators, p),
-        lots: entries::nth(&lots, p),
+        buyer: entries::nth(&pairs.buyers, p),
+        elevator: entries::nth(&pairs.elevators, p),
+        lots: entries::nth(&pairs.lots, p),
     }
 }
 
-// The first pairs in the order in which they are formed; `formed` has how many were formed before (01, Expiry, 6.2).
-fn pair_rows(
-    rt: &impl Print,
-    ps: Pairs,
-    count: usize,
-    bought: &mut [u64; SECTION_PLACES],
-    stocks: &mut [u64; ELEVATORS],
-    formed: &mut [u64; 2],
-    names: &[u8],
+// All pairs of a pass in the order in which they are formed (01, Expiry, 6.2).
+pub fn pairs(
+    rows: &Rows<impl Print>,
+    pairs: &Pairs,
+    left: &mut Left,
+    formed: &mut Formed,
 ) -> io::Result<()> {
-    let mut p = 0;
-    while p < count {
-        let next = pair_at(ps, p);
-        changed::raise(formed, 0, 1);
-        let number = entries::nth(formed, 0);
-        pair_row(
-            rt,
-            number,
-            next.buyer,
-            next.elevator,
-            next.lots,
-            bought,
-            stocks,
-            names,
-        )?;
-        p += 1;
+    rows.words(b"  stage one: the fullest buyer and the fullest elevator form a pair\n")?;
+    for p in 0..pairs.count {
+        formed.pairs = formed.pairs.saturating_add(1);
+        pair_row(rows, formed.pairs, pair_at(pairs, p), left)?;
     }
     Ok(())
-}
-
-// All pairs of a pass (01, Expiry, 6.2).
-pub fn pairs(
-    rt: &impl Print,
-    ps: Pairs,
-    bought: &mut [u64; SECTION_PLACES],
-    stocks: &mut [u64; ELEVATORS],
-    formed: &mut [u64; 2],
-    names: &[u8],
-) -> io::Result<()> {
-    let count = ps.count;
-    row::words(
-        rt,
-        b"  stage one: the fullest buyer and the fullest elevator form a pair\n",
-    )?;
-    pair_rows(rt, ps, count, bought, stocks, formed, names)
 }

@@ -2,18 +2,19 @@
 ghost use Rattle.std.specs.Prelude.{◌≡◌};
 ghost use Rattle.rules.specs.Words.{entry};
 
-use explain_row::row;
+use crate::formed::Formed;
+use explain_row::row::Rows;
 use list_leaves::{changed, entries, found};
 use method_columns::whole::Columns;
 use method_passes::pairs::Pairs;
 use method_passes::register::Register;
 use method_register::chosen;
-use rules::limits::{NOTICE_PLACES, PAIR_PLACES, SECTION_PLACES};
+use rules::limits::{NOTICE_PLACES, PAIR_PLACES};
 use std::io;
 use std::io::Print;
 
 // Who buys from whom, where, how many lots.
-#[derive(Drop)]
+#[derive(Clone, Copy)]
 struct Line {
     buyer: u8,
     elevator: u8,
@@ -21,243 +22,169 @@ struct Line {
     lots: u64,
 }
 
+// What is left of a pass's pairs, and of what is drawn for it of each notice.
+#[derive(Drop)]
+pub struct Left {
+    pub pairs: [u64; PAIR_PLACES],
+    pub drawn: [u64; NOTICE_PLACES],
+}
+
 // That several pairs had most lots: the lowest buyer's section code, and of one buyer's pairs the lowest elevator (01, Expiry, 6.4).
 fn pairs_tied(
-    rt: &impl Print,
-    buyers: &[u8; PAIR_PLACES],
+    rows: &Rows<impl Print>,
+    pairs: &Pairs,
     left: &[u64; PAIR_PLACES],
     lots: u64,
-    buyer: u8,
-    elevator: u8,
-    names: &[u8],
+    line: Line,
 ) -> io::Result<()> {
     let tied = found::alike(left, lots);
     if tied < 2 {
         return Ok(());
     }
+    let buyer = line.buyer as u64;
+    let elevator = line.elevator as u64;
     let mut own = [0; PAIR_PLACES];
-    chosen::lots_in_code(buyers, left, buyer, &mut own);
+    chosen::lots_in_code(&pairs.buyers, left, line.buyer, &mut own);
     let same = found::alike(&own, lots);
     if same == tied {
-        return row::say(
-            rt,
-            names,
+        return rows.say(
             b"    tie: # pairs of @ have # lots; the lowest elevator, #, is taken\n",
-            &[tied as u64, buyer as u64, lots, elevator as u64],
+            &[tied as u64, buyer, lots, elevator],
         );
     }
-    row::say(
-        rt,
-        names,
+    rows.say(
         b"    tie: # pairs have # lots; the lowest buyer section code, @, is taken\n",
-        &[tied as u64, lots, buyer as u64],
+        &[tied as u64, lots, buyer],
     )?;
     if same < 2 {
         return Ok(());
     }
-    row::say(
-        rt,
-        names,
+    rows.say(
         b"    tie: # of them are of @; the lowest elevator, #, is taken\n",
-        &[same as u64, buyer as u64, elevator as u64],
+        &[same as u64, buyer, elevator],
     )
 }
 
 // That several notices at the elevator had most lots (01, Expiry, 6.4).
 fn notices_tied(
-    rt: &impl Print,
+    rows: &Rows<impl Print>,
     stands: &[u8; NOTICE_PLACES],
     drawn: &[u64; NOTICE_PLACES],
     lots: u64,
-    elevator: u8,
-    seller: u8,
-    names: &[u8],
+    line: Line,
 ) -> io::Result<()> {
     let mut there = [0; NOTICE_PLACES];
-    chosen::lots_in_code(stands, drawn, elevator, &mut there);
+    chosen::lots_in_code(stands, drawn, line.elevator, &mut there);
     let tied = found::alike(&there, lots);
     if tied < 2 {
         return Ok(());
     }
-    row::say(
-        rt,
-        names,
+    rows.say(
         b"    tie: # notices at elevator # have # lots; the lowest seller section code, @, is taken\n",
-        &[tied as u64, elevator as u64, lots, seller as u64],
+        &[tied as u64, line.elevator as u64, lots, line.seller as u64],
     )
 }
 
 // That a line is taken out: buyer and seller are one participant (02, a, 1 and 3).
-fn taken_out(
-    rt: &impl Print,
-    buyer: u8,
-    seller: u8,
-    lots: u64,
-    persons: &[u32; SECTION_PLACES],
-    names: &[u8],
-) -> io::Result<()> {
-    let person = entries::nth_small(persons, buyer as usize);
-    if person != entries::nth_small(persons, seller as usize) {
+fn taken_out(rows: &Rows<impl Print>, line: Line, persons: &[u32]) -> io::Result<()> {
+    let person = entries::nth(persons, line.buyer as usize);
+    if person != entries::nth(persons, line.seller as usize) {
         return Ok(());
     }
-    let numbers = [buyer as u64, seller as u64, person as u64, lots];
-    row::say(
-        rt,
-        names,
+    let numbers = [
+        line.buyer as u64,
+        line.seller as u64,
+        person as u64,
+        line.lots,
+    ];
+    rows.say(
         b"    taken out (02, a; 001, 3.4): @ and @ are both participant #; # lots lapse for each\n",
         &numbers,
     )
 }
 
-// A line: what its pair and its notice had, and what is left of both (01, Expiry, 6.3; 000, 2.5).
+// A line, formed of notice k: what its pair and its notice had, and what is left of both (01, Expiry, 6.3; 000, 2.5).
 fn line_row(
-    rt: &impl Print,
+    rows: &Rows<impl Print>,
     number: u64,
-    buyer: u8,
-    elevator: u8,
-    seller: u8,
-    lots: u64,
-    buyers: &[u8; PAIR_PLACES],
-    elevators: &[u8; PAIR_PLACES],
-    left: &mut [u64; PAIR_PLACES],
-    selling: &[u8; NOTICE_PLACES],
-    stands: &[u8; NOTICE_PLACES],
-    drawn: &mut [u64; NOTICE_PLACES],
-    names: &[u8],
+    line: Line,
+    k: usize,
+    pairs: &Pairs,
+    columns: &Columns,
+    left: &mut Left,
 ) -> io::Result<()> {
-    let p = found::place_of(buyers, elevators, buyer, elevator);
-    let k = found::place_of(selling, stands, seller, elevator);
-    let has = entries::nth(left, p);
-    let offered = entries::nth(drawn, k);
-    pairs_tied(rt, buyers, left, has, buyer, elevator, names)?;
-    notices_tied(rt, stands, drawn, offered, elevator, seller, names)?;
-    let rest = changed::lower(left, p, lots);
-    let more = changed::lower(drawn, k, lots);
+    let p = found::place_of(&pairs.buyers, &pairs.elevators, line.buyer, line.elevator);
+    let has = entries::nth(&left.pairs, p);
+    let offered = entries::nth(&left.drawn, k);
+    pairs_tied(rows, pairs, &left.pairs, has, line)?;
+    notices_tied(rows, &columns.stands, &left.drawn, offered, line)?;
+    let rest = changed::lower(&mut left.pairs, p, line.lots);
+    let more = changed::lower(&mut left.drawn, k, line.lots);
     let numbers = [
         number,
-        buyer as u64,
-        elevator as u64,
+        line.buyer as u64,
+        line.elevator as u64,
         has,
         k as u64,
-        seller as u64,
+        line.seller as u64,
         offered,
-        lots,
+        line.lots,
         rest,
         more,
     ];
-    row::say(
-        rt,
-        names,
+    rows.say(
         b"  line #: @ at elevator # with #, notice # of @ with #: # lots; left # and #\n",
         &numbers,
     )
 }
 
 // Line n of a pass.
-fn line_at(g: Register, n: usize) -> Line
-    ensures { (result.buyer ≡ entry g.buyers n) × (result.elevator ≡ entry g.elevators n) × (result.seller ≡ entry g.sellers n) × (result.lots ≡ entry g.lots n) }
+fn line_at(g: &Register, n: usize) -> Line
+    ensures { (result.buyer ≡ entry g.now.buyers n) × (result.elevator ≡ entry g.now.elevators n) × (result.seller ≡ entry g.now.sellers n) × (result.lots ≡ entry g.now.lots n) }
 {
-    let buyers = g.buyers;
-    let elevators = g.elevators;
-    let sellers = g.sellers;
-    let lots = g.lots;
     Line {
-        buyer: entries::nth_byte(&buyers, n),
-        elevator: entries::nth_byte(&elevators, n),
-        seller: entries::nth_byte(&sellers, n),
-        lots: entries::nth_small(&lots, n) as u64,
+        buyer: entries::nth(&g.buyers, n),
+        elevator: entries::nth(&g.elevators, n),
+        seller: entries::nth(&g.sellers, n),
+        lots: entries::nth(&g.lots, n) as u64,
     }
 }
 
-// What a line draws is added to what was drawn of its notice (01, Calls, 9).
-fn drawn_more(
-    elevator: u8,
-    seller: u8,
-    lots: u64,
-    selling: &[u8; NOTICE_PLACES],
-    stands: &[u8; NOTICE_PLACES],
-    sold: &mut [u64; NOTICE_PLACES],
-) {
-    let k = found::place_of(selling, stands, seller, elevator);
-    changed::raise(sold, k, lots);
-}
-
-// Line n of a pass, whose number over all passes `formed` gets; `sold` gets what it draws (01, Expiry, 6.3).
+// The next line of a pass; its number over all passes and what it draws of its notice are added up in `formed` (01, Expiry, 6.3; 01, Calls, 9).
 fn next_line(
-    rt: &impl Print,
-    g: Register,
-    n: usize,
-    buyers: &[u8; PAIR_PLACES],
-    elevators: &[u8; PAIR_PLACES],
-    left: &mut [u64; PAIR_PLACES],
-    columns: Columns,
-    drawn: &mut [u64; NOTICE_PLACES],
-    formed: &mut [u64; 2],
-    sold: &mut [u64; NOTICE_PLACES],
-    names: &[u8],
+    rows: &Rows<impl Print>,
+    line: Line,
+    pairs: &Pairs,
+    columns: &Columns,
+    left: &mut Left,
+    formed: &mut Formed,
 ) -> io::Result<()> {
-    let next = line_at(g, n);
-    let buyer = next.buyer;
-    let elevator = next.elevator;
-    let seller = next.seller;
-    let lots = next.lots;
-    let persons = columns.persons;
-    let selling = columns.selling;
-    let stands = columns.stands;
-    changed::raise(formed, 1, 1);
-    let number = entries::nth(formed, 1);
-    drawn_more(elevator, seller, lots, &selling, &stands, sold);
-    line_row(
-        rt, number, buyer, elevator, seller, lots, buyers, elevators, left, &selling, &stands,
-        drawn, names,
-    )?;
-    taken_out(rt, buyer, seller, lots, &persons, names)
+    let k = found::place_of(
+        &columns.selling,
+        &columns.stands,
+        line.seller,
+        line.elevator,
+    );
+    formed.lines = formed.lines.saturating_add(1);
+    changed::raise(&mut formed.drawn, k, line.lots);
+    line_row(rows, formed.lines, line, k, pairs, columns, left)?;
+    taken_out(rows, line, &columns.persons)
 }
 
-// The first lines in the order in which they are formed (01, Expiry, 6.3).
-fn line_rows(
-    rt: &impl Print,
-    g: Register,
-    count: usize,
-    buyers: &[u8; PAIR_PLACES],
-    elevators: &[u8; PAIR_PLACES],
-    left: &mut [u64; PAIR_PLACES],
-    columns: Columns,
-    drawn: &mut [u64; NOTICE_PLACES],
-    formed: &mut [u64; 2],
-    sold: &mut [u64; NOTICE_PLACES],
-    names: &[u8],
-) -> io::Result<()> {
-    let mut n = 0;
-    while n < count {
-        next_line(
-            rt, g, n, buyers, elevators, left, columns, drawn, formed, sold, names,
-        )?;
-        n += 1;
-    }
-    Ok(())
-}
-
-// All lines of a pass (01, Expiry, 6.3).
+// All lines of a pass in the order in which they are formed (01, Expiry, 6.3).
 pub fn lines(
-    rt: &impl Print,
-    ps: Pairs,
-    g: Register,
-    columns: Columns,
-    drawn: &mut [u64; NOTICE_PLACES],
-    formed: &mut [u64; 2],
-    sold: &mut [u64; NOTICE_PLACES],
-    names: &[u8],
+    rows: &Rows<impl Print>,
+    pairs: &Pairs,
+    g: &Register,
+    columns: &Columns,
+    left: &mut Left,
+    formed: &mut Formed,
 ) -> io::Result<()> {
-    let buyers = ps.buyers;
-    let elevators = ps.elevators;
-    let mut left = ps.lots;
-    let count = g.count;
-    row::words(
-        rt,
+    rows.words(
         b"  stage two: the fullest pair and the fullest notice at its elevator form a line\n",
     )?;
-    line_rows(
-        rt, g, count, &buyers, &elevators, &mut left, columns, drawn, formed, sold, names,
-    )
+    for n in 0..g.count {
+        next_line(rows, line_at(g, n), pairs, columns, left, formed)?;
+    }
+    Ok(())
 }

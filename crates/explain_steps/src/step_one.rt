@@ -1,34 +1,33 @@
 // Step 1 in words: which sections fail, and why.
 use explain_row::row;
+use explain_row::row::Rows;
 use list_leaves::entries;
 use method_account::failing::Failed;
 use rules::book::{Book, Section};
-use rules::limits::SECTION_PLACES;
 use std::io;
 use std::io::Print;
 use value::signed;
 
 // The condition and the seller mark.
-fn marks(rt: &impl Print, s: Section) -> io::Result<()> {
-    let seller = s.seller;
+fn marks(rows: &Rows<impl Print>, s: Section) -> io::Result<()> {
     if s.met {
-        row::words(rt, b", condition met")?;
-        return row::seller_mark(rt, seller);
+        rows.words(b", condition met")?;
+    } else {
+        rows.words(b", condition not met")?;
     }
-    row::words(rt, b", condition not met")?;
-    row::seller_mark(rt, seller)
+    rows.seller_mark(s.seller)
 }
 
 // A reason that holds (01, Expiry, 1.1).
-fn reason(rt: &impl Print, holds: bool, text: &[u8]) -> io::Result<()> {
+fn reason(rows: &Rows<impl Print>, holds: bool, text: &[u8]) -> io::Result<()> {
     if holds {
-        return row::words(rt, text);
+        return rows.words(text);
     }
     Ok(())
 }
 
 // Every reason that makes a section fail, or that it is sound (01, Expiry, 1.1; 000, 2.1).
-fn verdict(rt: &impl Print, s: Section, noticed: u64, failed: u64) -> io::Result<()> {
+fn verdict(rows: &Rows<impl Print>, s: Section, noticed: u64, failed: u64) -> io::Result<()> {
     let position = s.position.0;
     let own = signed::size(position);
     let short = position < 0;
@@ -36,30 +35,29 @@ fn verdict(rt: &impl Print, s: Section, noticed: u64, failed: u64) -> io::Result
     let unmarked = short & !s.seller;
     let unequal = short & (noticed != own);
     if !(unmet | unmarked | unequal) {
-        return row::words(rt, b"    sound\n");
+        return rows.words(b"    sound\n");
     }
-    reason(rt, unmet, b"    fails: its condition is not met\n")?;
+    reason(rows, unmet, b"    fails: its condition is not met\n")?;
     reason(
-        rt,
+        rows,
         unmarked,
         b"    fails: it is short without the seller mark\n",
     )?;
     reason(
-        rt,
+        rows,
         unequal,
         b"    fails: it is short and its notices do not sum to its lots (ours)\n",
     )?;
-    row::say(rt, &[], b"    its # lots are terminated\n", &[failed])
+    rows.say(b"    its # lots are terminated\n", &[failed])
 }
 
 // A section's row.
 fn section(
-    rt: &impl Print,
+    rows: &Rows<impl Print>,
     s: Section,
     i: usize,
     noticed: u64,
     failed: u64,
-    names: &[u8],
 ) -> io::Result<()> {
     let position = s.position.0;
     let numbers = [
@@ -69,36 +67,19 @@ fn section(
         signed::size(position),
         noticed,
     ];
-    row::say(
-        rt,
-        names,
-        b"@ code #, position ~#, lots in notices #",
-        &numbers,
-    )?;
-    marks(rt, s)?;
-    row::words(rt, b"\n")?;
-    verdict(rt, s, noticed, failed)
+    rows.say(b"@ code #, position ~#, lots in notices #", &numbers)?;
+    marks(rows, s)?;
+    rows.words(b"\n")?;
+    verdict(rows, s, noticed, failed)
 }
 
 // Every section held (01, Expiry, 1.1 and 1.2).
-pub fn explain(rt: &impl Print, b: Book, first: Failed, names: &[u8]) -> io::Result<()> {
-    let held = b.held;
-    let noticed = first.noticed;
-    let failed = first.failed;
-    row::words(
-        rt,
-        b"\nStep 1. Which sections fail (000, 2.1; 01, Expiry, step 1)\n",
-    )?;
-    let mut i = 0;
-    while i < SECTION_PLACES {
-        if held <= i {
-            return Ok(());
-        }
-        let s = b.sections[i];
-        let filed = entries::nth(&noticed, i);
-        let lots = entries::nth(&failed, i);
-        section(rt, s, i, filed, lots, names)?;
-        i += 1;
+pub fn explain(rows: &Rows<impl Print>, b: &Book, first: &Failed) -> io::Result<()> {
+    rows.words(b"\nStep 1. Which sections fail (000, 2.1; 01, Expiry, step 1)\n")?;
+    for (i, s) in b.sections.iter().take(b.held).enumerate() {
+        let filed = entries::nth(&first.noticed, i);
+        let lots = entries::nth(&first.failed, i);
+        section(rows, *s, i, filed, lots)?;
     }
     Ok(())
 }

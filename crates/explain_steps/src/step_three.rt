@@ -1,207 +1,133 @@
 // Step 3 in words: what is left open is closed over all settlement codes together.
 use crate::{codes, giving};
 use explain_row::row;
+use explain_row::row::Rows;
 use list_leaves::{changed, entries};
 use method_account::across::Across;
+use method_columns::whole::Columns;
 use method_giving::chosen;
 use rules::limits::{SECTION_PLACES, SETTLEMENT_CODES};
 use std::io;
 use std::io::Print;
 use value::signed;
 
-// Whether a code's sound net lets it give, and how much (01, Expiry, 3.2; 000, 2.3).
-fn code(
-    rt: &impl Print,
-    c: u8,
-    net: i64,
-    d: i64,
-    may: &mut [u64],
-    caps: &mut [u64],
-) -> io::Result<()> {
+// Whether a code's sound net lets it give; the answer is how much (01, Expiry, 3.2; 000, 2.3).
+fn code(rows: &Rows<impl Print>, net: i64, d: i64) -> io::Result<u64> {
     let size = signed::size(net);
     let numbers = [row::minus(net), size, size];
     if chosen::opposed(net, d) {
-        let place = c as usize;
-        changed::raise(may, place, size);
-        changed::raise(caps, place, size);
-        return row::say(
-            rt,
-            &[],
+        rows.say(
             b"    the sound net is ~#, opposite to D: it may give #\n",
             &numbers,
-        );
+        )?;
+        return Ok(size);
     }
-    row::say(
-        rt,
-        &[],
+    rows.say(
         b"    the sound net is ~#, not opposite to D: it gives nothing\n",
         &numbers,
-    )
+    )?;
+    Ok(0)
 }
 
-// The sections of a code with sound lots left, and its net of them; `may` and `caps` get what it may give (01, Expiry, 3.2).
+// The sections of a code with sound lots left, and its net of them; the answer is what it may give (01, Expiry, 3.2).
 fn code_rows(
-    rt: &impl Print,
-    codes: &[u8; SECTION_PLACES],
-    positions: &[i64; SECTION_PLACES],
+    rows: &Rows<impl Print>,
+    columns: &Columns,
     left: &[u64; SECTION_PLACES],
     c: u8,
     net: i64,
     d: i64,
-    may: &mut [u64; SETTLEMENT_CODES],
-    caps: &mut [u64; SETTLEMENT_CODES],
-    names: &[u8],
-) -> io::Result<()> {
-    if !codes::some_in(codes, left, c) {
-        return Ok(());
+) -> io::Result<u64> {
+    if !codes::some_in(&columns.codes, left, c) {
+        return Ok(0);
     }
-    row::say(rt, &[], b"code #, sound lots left\n", &[c as u64])?;
-    codes::rows(rt, codes, positions, left, c, names)?;
-    code(rt, c, net, d, may, caps)
+    rows.say(b"code #, sound lots left\n", &[c as u64])?;
+    codes::sections(rows, columns, left, c)?;
+    code(rows, net, d)
 }
 
-// All codes, by number; `may` and `caps` are noughts at first (01, Expiry, 3.2).
+// All codes, by number; the answer is what each may give (01, Expiry, 3.2).
 fn net_rows(
-    rt: &impl Print,
-    codes: &[u8; SECTION_PLACES],
-    positions: &[i64; SECTION_PLACES],
+    rows: &Rows<impl Print>,
+    columns: &Columns,
     left: &[u64; SECTION_PLACES],
-    nets: [i64; SETTLEMENT_CODES],
-    d: i64,
-    may: &mut [u64; SETTLEMENT_CODES],
-    caps: &mut [u64; SETTLEMENT_CODES],
-    names: &[u8],
-) -> io::Result<()> {
-    let mut c = 0;
-    while c < SETTLEMENT_CODES {
-        let net = nets[c];
-        let number = c as u8;
-        code_rows(rt, codes, positions, left, number, net, d, may, caps, names)?;
-        c += 1;
+    third: &Across,
+) -> io::Result<[u64; SETTLEMENT_CODES]> {
+    let mut may = [0; SETTLEMENT_CODES];
+    for c in 0..SETTLEMENT_CODES {
+        may[c] = code_rows(rows, columns, left, c as u8, third.sound[c], third.d)?;
     }
-    Ok(())
-}
-
-// What a section has, gives, and leaves of D and of the net of its code (01, Expiry, 3.3; 000, 2.3.1).
-fn giver(
-    rt: &impl Print,
-    i: usize,
-    c: u8,
-    mine: u64,
-    gives: u64,
-    d: i64,
-    earlier: u64,
-    unclosed: &mut [u64],
-    caps: &mut [u64],
-    names: &[u8],
-) -> io::Result<()> {
-    if mine == 0 {
-        return Ok(());
-    }
-    let left = changed::lower(unclosed, 0, gives);
-    let net = changed::lower(caps, c as usize, gives);
-    let numbers = [
-        i as u64,
-        c as u64,
-        mine,
-        gives,
-        row::minus_left(d, left),
-        left,
-        net,
-        c as u64,
-    ];
-    giving::tie(rt, mine, earlier, i, names)?;
-    row::say(
-        rt,
-        names,
-        b"    @ of code # has # lots and gives #; ~# left of D, # of the net of code #\n",
-        &numbers,
-    )
+    Ok(may)
 }
 
 // What a section has to give where its code may give anything.
-fn offered(mine: u64, cap: u64) -> u64 {
-    if cap == 0 { 0 } else { mine }
+fn offered(own: u64, cap: u64) -> u64 {
+    if cap == 0 { 0 } else { own }
 }
 
-// Who gives towards D, in the order over all codes (01, Expiry, 3.3).
+// Who gives towards D, in the order over all codes: what each has, gives, and leaves of D and of the net of its code, which `may` has at first. The answer is what
+// is left of D (01, Expiry, 3.3; 000, 2.3.1).
 fn givers(
-    rt: &impl Print,
-    codes: &[u8; SECTION_PLACES],
-    lots: &[u64; SECTION_PLACES],
-    order: &[usize; SECTION_PLACES],
-    given: &[u64; SECTION_PLACES],
+    rows: &Rows<impl Print>,
+    columns: &Columns,
     held: usize,
-    d: i64,
+    third: &Across,
     may: &[u64; SETTLEMENT_CODES],
-    unclosed: &mut [u64; 1],
-    caps: &mut [u64; SETTLEMENT_CODES],
-    names: &[u8],
-) -> io::Result<()> {
+) -> io::Result<u64> {
+    let mut caps = *may;
+    let mut left = signed::size(third.d);
     let mut earlier = 0;
-    let mut k = 0;
-    while k < held {
-        let i = entries::nth_place(order, k);
-        let c = entries::nth_byte(codes, i);
-        let mine = offered(entries::nth(lots, i), entries::nth(may, c as usize));
-        let gives = entries::nth(given, i);
-        giver(rt, i, c, mine, gives, d, earlier, unclosed, caps, names)?;
-        earlier = giving::latest(mine, earlier);
-        k += 1;
+    for i in third.giving.order.iter().take(held) {
+        let c = entries::nth(&columns.codes, *i);
+        let own = offered(
+            entries::nth(&third.giving.lots, *i),
+            entries::nth(may, c as usize),
+        );
+        if own == 0 {
+            continue;
+        }
+        let gives = entries::nth(&third.giving.given, *i);
+        left = left.saturating_sub(gives);
+        let net = changed::lower(&mut caps, c as usize, gives);
+        giving::tie(rows, own, earlier, *i)?;
+        earlier = own;
+        let numbers = [
+            *i as u64,
+            c as u64,
+            own,
+            gives,
+            row::minus_left(third.d, left),
+            left,
+            net,
+            c as u64,
+        ];
+        rows.say(
+            b"    @ of code # has # lots and gives #; ~# left of D, # of the net of code #\n",
+            &numbers,
+        )?;
     }
-    Ok(())
+    Ok(left)
 }
 
 // D, the codes that may give, and who gives (01, Expiry, 3.1; 01, Expiry, 3.2; 01, Expiry, 3.3).
 pub fn explain(
-    rt: &impl Print,
-    codes: &[u8; SECTION_PLACES],
-    positions: &[i64; SECTION_PLACES],
+    rows: &Rows<impl Print>,
+    columns: &Columns,
     left: &[u64; SECTION_PLACES],
     held: usize,
-    third: Across,
-    names: &[u8],
+    third: &Across,
 ) -> io::Result<()> {
     let d = third.d;
-    let nets = third.sound;
-    let giving = third.giving;
-    let lots = giving.lots;
-    let order = giving.order;
-    let given = giving.given;
     let size = signed::size(d);
-    row::words(
-        rt,
+    rows.words(
         b"\nStep 3. What is left is closed over all codes together (000, 2.3; 01, Expiry, step 3)\nD is what is left of all D(c), with sign. Codes whose sound net after step 2 is opposite to D give,\neach at most its net: their sections on the side of that net, over all such codes together,\nsmallest first, then lower section code. Codes with no sound lots left are not shown.\n",
     )?;
-    row::say(rt, &[], b"D = ~#\n", &[row::minus(d), size])?;
+    rows.say(b"D = ~#\n", &[row::minus(d), size])?;
     if size == 0 {
-        return row::words(rt, b"nothing is to be closed\n");
+        return rows.words(b"nothing is to be closed\n");
     }
-    let mut unclosed = [size];
-    let mut may = [0; SETTLEMENT_CODES];
-    let mut caps = [0; SETTLEMENT_CODES];
-    net_rows(
-        rt, codes, positions, left, nets, d, &mut may, &mut caps, names,
-    )?;
-    row::words(rt, b"who gives\n")?;
-    givers(
-        rt,
-        codes,
-        &lots,
-        &order,
-        &given,
-        held,
-        d,
-        &may,
-        &mut unclosed,
-        &mut caps,
-        names,
-    )?;
-    let rest = unclosed[0];
-    row::say(
-        rt,
-        &[],
-        b"left of D: ~#\n",
-        &[row::minus_left(d, rest), rest],
-    )
+    let may = net_rows(rows, columns, left, third)?;
+    rows.words(b"who gives\n")?;
+    let rest = givers(rows, columns, held, third, &may)?;
+    rows.say(b"left of D: ~#\n", &[row::minus_left(d, rest), rest])
 }

@@ -1,6 +1,8 @@
 -- What is printed of words that the system hands out one by one: no contract names them, so each says that there are some.
-use Rattle.std.specs.Prelude.{ℕ, suc, ◌≡◌, true, List, map, length}
-use Rattle.rules.specs.declared.book.Book.{Book}
+use Rattle.std.specs.Prelude.{ℕ, suc, ◌≡◌, true, List, [], ◌∷◌, map, length}
+use Rattle.rules.specs.declared.book.{Book.Book, Failures.Failures}
+use Rattle.rules.specs.Words.{decimal}
+use Rattle.rules.specs.Listing.{row}
 use Rattle.rules.specs.Book.{good, held_sections}
 use Rattle.rules.specs.Failures.{failures_answer, section_meant, answer_row}
 use Rattle.io.specs.Counts.{IsPrefixLen}
@@ -12,6 +14,10 @@ pub record Resolved (keys meant : List ℕ) : Type 0 where
   pub words : List (List ℕ)
   pub as_many : length words ≡ length meant
   pub each : (b : Book) → good b ≡ true → keys ≡ keys_of (held_sections b) → meant ≡ map (section_meant b) words
+
+-- the row of three counts (02, n, 2)
+abbrev pub counts_row : Failures → List ℕ
+counts_row f = row (decimal f.full ∷ decimal f.part ∷ decimal f.none ∷ [])
 
 -- the row of a book for a section asked and those named, by their words (02, n, 1 and 2 and 5)
 abbrev pub row_for : Book → List ℕ → List (List ℕ) → List ℕ

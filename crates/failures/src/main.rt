@@ -11,7 +11,7 @@ use answer::ROW_BYTES;
 use method_columns::sections;
 use program_io::INPUT_BYTES;
 use rules::book::Book;
-use rules::limits::{ACCEPTED, SECTION_PLACES};
+use rules::limits::SECTION_PLACES;
 use std::env::Env;
 use std::io;
 
@@ -30,11 +30,9 @@ fn resolve<E: Env>(env: &E, keys: &[u64], meant: &mut [u8])
     ensures { Resolved keys.now meant.new }
 {
     let mut word = [0; WORD_BYTES];
-    let mut i = 0;
-    while i < meant.len() {
+    for i in 0..meant.len() {
         let length = program_io::word(env, i + 1, &mut word);
         meant[i] = words::meant(keys, &word[..length]);
-        i += 1;
     }
 }
 
@@ -64,13 +62,10 @@ fn printed<E: Env>(env: &E, file: &[u8], count: usize, out: &mut [u8]) -> usize
     requires { (0 < count) × (count ≤ 256) × (33 ≤ length out.old) }
     ensures { Prints (failures_printed file.now) count out.old out.new result }
 {
-    let present = file_present::present(file);
-    let number = present.number;
-    let book = present.book;
-    if number != ACCEPTED {
-        return listing::refusal(number, out, 0);
+    match file_present::present(file) {
+        Ok(book) => answered(env, book, count, out),
+        Err(refusal) => listing::refusal(listing::number_of(refusal), out, 0),
     }
-    answered(env, book, count, out)
 }
 
 fn run(rt: &HostRuntime, count: usize) -> io::Result<()>

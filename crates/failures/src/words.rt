@@ -7,7 +7,7 @@ ghost use Rattle.rules.specs.Failures.{section_meant};
 ghost use Rattle.method_laws.specs.Columns.{keys_of};
 ghost use Rattle.failures.specs.Meant.{place_of, number_below};
 
-// A number that no section has, since at most 128 are held (01, Book, 1).
+// A number that no section has, since at most 128 are held (01, Book, 1). It is no Option: `section_meant` has the number, and the call refuses it with 10.
 const NO_SECTION: u8 = 255;
 
 // The bytes of a section code (01, Book, 3).
@@ -18,12 +18,10 @@ fn place_of(keys: &[u64], key: u64) -> u8
     requires { length keys.now ≤ 128 }
     ensures { result ≡ place_of keys.now key }
 {
-    let mut i = 0;
-    while i < keys.len() {
-        if keys[i] == key {
+    for (i, own) in keys.iter().enumerate() {
+        if *own == key {
             return i as u8;
         }
-        i += 1;
     }
     NO_SECTION
 }
@@ -43,8 +41,10 @@ fn number_below(held: usize, word: &[u8]) -> u8
     requires { held ≤ 128 }
     ensures { result ≡ number_below held word.now }
 {
-    let number = program_words::number(word);
-    if number < (held as u64) {
+    let Some(number) = program_words::number(word) else {
+        return NO_SECTION;
+    };
+    if (number as usize) < held {
         return number as u8;
     }
     NO_SECTION

@@ -5,17 +5,17 @@ use Rattle.numbers.proofs.Lists.{over_at}
 use Rattle.numbers.proofs.Passing.{flat_map_same}
 use Rattle.numbers.specs.Text.{bytes, decimal}
 use Rattle.numbers.proofs.Ranges.{listed-length}
-use Rattle.rules.specs.declared.book.{Book.Book, Answer.Answer}
+use Rattle.std.specs.Prelude.{Ok, Err}
+use Rattle.rules.specs.Answers.{Answer, Found}
+use Rattle.rules.specs.declared.book.{Book.Book}
 use Rattle.rules.specs.declared.events.Event.{Event}
 use Rattle.rules.specs.declared.events.Event.TheVariants.{Section as SectionEvent, Trade, Session, Condition, Notice as NoticeEvent, Expiry}
-use Rattle.rules.specs.declared.events.Found.{Found}
-use Rattle.rules.specs.declared.events.Found.TheVariants.{Values, Refused}
 use Rattle.rules.specs.Book.{good, opened, section_places, held_sections, filed_notices}
 use Rattle.rules.specs.Calls.{◌if◌, first, answer, judged, handed_out, count, opening_number}
 use Rattle.rules.specs.Expiry.Passes.{Line}
 use Rattle.rules.specs.Expiry.Call.{register_places, day_last, kept, expiry_refusals, after_expiry, expiry_written, expiry_answer}
 use Rattle.rules.specs.History.{Single, Session as Held, answer_of, session_of}
-use Rattle.rules.specs.File.{word_at, events_in, misshapen, found_at, read_at, Lent, Run, stopped, call_of, own_number, summed, after_event, read_from, read_whole, file_answer, file_lists}
+use Rattle.rules.specs.File.{word_at, events_in, misshapen, found_at, Lent, Run, stopped, call_of, own_number, summed, after_event, read_from, read_whole, file_answer, file_lists}
 use Rattle.rules.specs.Listing.{row, section_row, listing_bytes, listing_of, printed_with, noughts, printed}
 use Rattle.book_laws.proofs.ExpiryLists.{register_rows, delivered_written, terminated_written, lapsed_written}
 use Rattle.book_laws.proofs.Good.{facts}
@@ -61,11 +61,11 @@ module _ (lent : Lent) (room : Roomy lent) (b : Book) where
             le-ltb _ _ (le_trans held room.lapsed),
           )
 
-  own_booked : (code : List ℕ) → own_number lent b Expiry code ≡ expiry_number b
+  own_booked : own_number lent b Expiry ≡ expiry_number b
   unfolding own_number call_of answer_of expiry_answer
-  own_booked code = go (good b) refl
+  own_booked = go (good b) refl
     where
-      go : (t : Bool) → good b ≡ t → own_number lent b Expiry code ≡ expiry_number b
+      go : (t : Bool) → good b ≡ t → own_number lent b Expiry ≡ expiry_number b
       go false e = rw number_booked (simp (not_good b e))
       go true e = simp (le-ltb (length lent.sums) b.held (le_trans (facts b e).held room.sums), and-false, number_booked)
 
@@ -76,11 +76,10 @@ accepted t next refused = elim t [ true ↦ next | false ↦ refused ]
 abbrev turn : List ℕ → Lent → ℕ → Run → Found → Run
 turn file lent left run found =
     elim found [
-      | Refused number ↦ stopped number run.place
-      | Values event ↦
-          let code = (read_at file run.place).code in
-          let own = own_number lent run.book event code in
-          accepted (eqb own 0) (read_from file lent left (after_event run (call_of lent run.book event code))) (stopped own run.place)
+      | Err number ↦ stopped number run.place
+      | Ok event ↦
+          let own = own_number lent run.book event in
+          accepted (eqb own 0) (read_from file lent left (after_event run (call_of lent run.book event))) (stopped own run.place)
     ]
 
 -- its start
@@ -101,39 +100,39 @@ after_good run call e = call_answered run.book call e
 -- two loans that are long enough
 module _ (l m : Lent) (large : Roomy l) (enough : Roomy m) where
   -- an event is answered alike
-  answer_same : (b : Book) (event : Event) (code : List ℕ) → answer_of b (call_of l b event code) ≡ answer_of b (call_of m b event code)
+  answer_same : (b : Book) (event : Event) → answer_of b (call_of l b event) ≡ answer_of b (call_of m b event)
   unfolding answer_of call_of expiry_answer
-  answer_same b (SectionEvent settlement seller participant) code = refl
-  answer_same b (Trade buyer seller price lots) code = refl
-  answer_same b (Session price) code = refl
-  answer_same b (Condition i met) code = refl
-  answer_same b (NoticeEvent i elevator lots) code = refl
-  answer_same b Expiry code = ap (λ (n : ℕ). answer n (after_expiry b) b) (number_booked l large b ∙ sym (number_booked m enough b))
+  answer_same b (SectionEvent settlement seller code participant) = refl
+  answer_same b (Trade buyer seller price lots) = refl
+  answer_same b (Session price) = refl
+  answer_same b (Condition i met) = refl
+  answer_same b (NoticeEvent i elevator lots) = refl
+  answer_same b Expiry = ap (λ (n : ℕ). answer n (after_expiry b) b) (number_booked l large b ∙ sym (number_booked m enough b))
 
-  own_same : (b : Book) (event : Event) (code : List ℕ) → own_number l b event code ≡ own_number m b event code
+  own_same : (b : Book) (event : Event) → own_number l b event ≡ own_number m b event
   unfolding own_number call_of
-  own_same b (SectionEvent settlement seller participant) code = refl
-  own_same b (Trade buyer seller price lots) code = refl
-  own_same b (Session price) code = refl
-  own_same b (Condition i met) code = refl
-  own_same b (NoticeEvent i elevator lots) code = refl
-  own_same b Expiry code = own_booked l large b code ∙ sym (own_booked m enough b code)
+  own_same b (SectionEvent settlement seller code participant) = refl
+  own_same b (Trade buyer seller price lots) = refl
+  own_same b (Session price) = refl
+  own_same b (Condition i met) = refl
+  own_same b (NoticeEvent i elevator lots) = refl
+  own_same b Expiry = own_booked l large b ∙ sym (own_booked m enough b)
 
   -- no event but a session brings margins, and a session of a read is lent a list of its own
-  margins_same : (b : Book) (event : Event) (code : List ℕ) → session_of b (call_of l b event code) ≡ session_of b (call_of m b event code)
+  margins_same : (b : Book) (event : Event) → session_of b (call_of l b event) ≡ session_of b (call_of m b event)
   unfolding session_of call_of
-  margins_same b (SectionEvent settlement seller participant) code = refl
-  margins_same b (Trade buyer seller price lots) code = refl
-  margins_same b (Session price) code = refl
-  margins_same b (Condition i met) code = refl
-  margins_same b (NoticeEvent i elevator lots) code = refl
-  margins_same b Expiry code = refl
+  margins_same b (SectionEvent settlement seller code participant) = refl
+  margins_same b (Trade buyer seller price lots) = refl
+  margins_same b (Session price) = refl
+  margins_same b (Condition i met) = refl
+  margins_same b (NoticeEvent i elevator lots) = refl
+  margins_same b Expiry = refl
 
-  after_same : (run : Run) (event : Event) (code : List ℕ) → after_event run (call_of l run.book event code) ≡ after_event run (call_of m run.book event code)
+  after_same : (run : Run) (event : Event) → after_event run (call_of l run.book event) ≡ after_event run (call_of m run.book event)
   unfolding after_event
-  after_same run event code =
+  after_same run event =
       ap₂ (λ (a : Answer) (ss : List Held). record { number = 0; place = run.place + 1; book = a.book; sums = summed run.sums ss })
-      (answer_same run.book event code) (margins_same run.book event code)
+      (answer_same run.book event) (margins_same run.book event)
 
   -- the read goes the same way
   read_same : (file : List ℕ) (left : ℕ) (run : Run) → read_from file l left run ≡ read_from file m left run
@@ -142,13 +141,12 @@ module _ (l m : Lent) (large : Roomy l) (enough : Roomy m) where
   read_same file (suc left) run = go (read_same file left) (found_at file run.place)
     where
       go : ((next : Run) → read_from file l left next ≡ read_from file m left next) → (found : Found) → turn file l left run found ≡ turn file m left run found
-      go later (Refused number) = refl
-      go later (Values event) =
-          let code = (read_at file run.place).code in
-          let next = after_event run (call_of l run.book event code) in
-          ap (λ (n : ℕ). accepted (eqb n 0) (read_from file l left next) (stopped n run.place)) (own_same run.book event code)
-          ∙ ap (λ (r : Run). accepted (eqb (own_number m run.book event code) 0) r (stopped (own_number m run.book event code) run.place))
-          (later next ∙ ap (read_from file m left) (after_same run event code))
+      go later (Err number) = refl
+      go later (Ok event) =
+          let next = after_event run (call_of l run.book event) in
+          ap (λ (n : ℕ). accepted (eqb n 0) (read_from file l left next) (stopped n run.place)) (own_same run.book event)
+          ∙ ap (λ (r : Run). accepted (eqb (own_number m run.book event) 0) r (stopped (own_number m run.book event) run.place))
+          (later next ∙ ap (read_from file m left) (after_same run event))
 
   whole_same : (file : List ℕ) → read_whole file l ≡ read_whole file m
   unfolding read_whole
@@ -177,11 +175,10 @@ module _ (file : List ℕ) (lent : Lent) where
   read_fits (suc left) run e = go (read_fits left) (found_at file run.place)
     where
       go : ((next : Run) → good next.book ≡ true → Fits (read_from file lent left next)) → (found : Found) → Fits (turn file lent left run found)
-      go later (Refused number) = stopped_fits number run.place
-      go later (Values event) =
-          let code = (read_at file run.place).code in
-          let call = call_of lent run.book event code in
-          let own = own_number lent run.book event code in
+      go later (Err number) = stopped_fits number run.place
+      go later (Ok event) =
+          let call = call_of lent run.book event in
+          let own = own_number lent run.book event in
           accepted_fits (eqb own 0) (read_from file lent left (after_event run call)) (stopped own run.place)
           (λ z. later (after_event run call) (after_good run call e)) (stopped_fits own run.place)
 

@@ -1,11 +1,12 @@
 -- What an accepted read hands out is within the limits of a listing, and what a read prints.
-use Rattle.numbers.proofs.Words.{ℕ, ◌≤◌, arith, ◌≡◌, sym, ap, ap₂, subst, subst₂, ◌∙◌, Bool, true, false, List, length, eq-eqb, ne_eqb, nat_abs, replicate, listed, entry_ℤ, over}
-use Rattle.rules.specs.declared.book.{FileAnswer.FileAnswer}
+use Rattle.numbers.proofs.Words.{ℕ, ◌≤◌, arith, ◌≡◌, sym, ap, ap₂, subst, subst₂, ◌∙◌, Bool, true, false, List, length, length-append, length-drop, length-replicate, drop, pos, eq-eqb, ne_eqb, nat_abs, replicate, listed, entry_ℤ, over}
+use Rattle.rules.specs.Answers.{FileAnswer}
 use Rattle.rules.specs.Book.{held_sections, filed_notices}
 use Rattle.rules.specs.Calls.{handed_out, count}
-use Rattle.rules.specs.Expiry.Call.{pairs, lines, kept, expiry_written}
+use Rattle.rules.specs.Expiry.Passes.{buyers_of, elevators_of, sellers_of, lots_of}
+use Rattle.rules.specs.Expiry.Call.{remaining, terminated, pairs, lines, kept, lapsed, delivered, expiry_written}
 use Rattle.rules.specs.File.{Lent, Run, read_whole, file_answer, file_lists}
-use Rattle.rules.specs.Listing.{listing_of, printed_with, noughts, printed}
+use Rattle.rules.specs.Listing.{listing_bytes, listing_of, printed_with, noughts, printed}
 use Rattle.book_laws.proofs.Good.{Good, facts}
 use Rattle.book_laws.proofs.Held.{held_good}
 use Rattle.method_delivery.proofs.Taken.{few_kept}
@@ -14,15 +15,12 @@ use Rattle.file_event.proofs.Laws.Cases.{shaped}
 use Rattle.read_laws.proofs.Read.{whole_shaped, whole_from, whole_read}
 use Rattle.read_laws.proofs.Along.{sums_within}
 use Rattle.read_laws.proofs.Calls.{whole_sound, sums_handed}
-use Rattle.listing.specs.Columns.{refused_row, listing}
+use Rattle.listing.specs.Columns.{refused_row}
 use Rattle.listing.specs.Limits.{Limits}
-use Rattle.listing.proofs.Laws.Listing.{listing_of_lem}
 
 -- an answer and lists that a listing can be made of
 abbrev pub Listable : FileAnswer → Lent → Type 0
-Listable a lent =
-    let ls = lent.lists in
-    Limits a.book a.kept ls.buyers ls.elevators ls.sellers ls.lots ls.delivered ls.terminated ls.lapsed lent.sums
+Listable a lent = Limits a.book a.kept lent
 
 module _ (file : List ℕ) (lent : Lent) (e : (read_whole file lent).number ≡ 0) where
   abbrev run : Run
@@ -55,6 +53,34 @@ module _ (file : List ℕ) (lent : Lent) (e : (read_whole file lent).number ≡ 
             let lots = section_limits b book_good lent.lists i h in
             (omega (arith, lots.0), omega (arith, lots.1), omega (arith, lots.2), omega (arith, few_events, sums_within run (whole_sound file lent e) i, ap nat_abs (ap (λ (n : ℕ). entry_ℤ (handed n).sums i) (sym e) ∙ sums_handed file lent e i h)));
       })
+
+-- lists with the places that the program lends
+abbrev pub Places : Lent → Type 0
+Places l =
+    (382 ≤ length l.lists.buyers) × (382 ≤ length l.lists.elevators) × (382 ≤ length l.lists.sellers) × (382 ≤ length l.lists.lots)
+    × (128 ≤ length l.lists.delivered) × (128 ≤ length l.lists.terminated) × (128 ≤ length l.lists.lapsed) × (128 ≤ length l.sums)
+
+over_places : {A : Type 0} (xs : List A) (n : ℕ) (x : A) → n ≤ length (over xs (replicate n x))
+over_places xs n x = omega (arith, length-append xs (drop (length xs) (replicate n x)), length-drop (length xs) (replicate n x), length-replicate n x)
+
+-- an accepted read hands out lists with as many
+places : (run : Run) → run.number ≡ 0 → Places (file_lists run noughts)
+unfolding file_lists expiry_written noughts
+places run e =
+    let ss = held_sections run.book in
+    let ns = filed_notices run.book in
+    let sums = listed run.book.held (entry_ℤ run.sums) in
+    let new : Lent = record { lists = expiry_written run.book noughts.lists; sums = over sums noughts.sums } in
+    subst (λ (n : ℕ). Places (handed_out n new noughts)) (sym e) (
+      over_places {A = ℕ} (buyers_of (kept ss ns)) 382 0,
+      over_places {A = ℕ} (elevators_of (kept ss ns)) 382 0,
+      over_places {A = ℕ} (sellers_of (kept ss ns)) 382 0,
+      over_places {A = ℕ} (lots_of (kept ss ns)) 382 0,
+      over_places {A = ℕ} (delivered ss ns) 128 0,
+      over_places {A = ℕ} (terminated ss (remaining ss ns)) 128 0,
+      over_places {A = ℕ} (lapsed ss ns) 128 0,
+      over_places sums 128 (pos 0),
+    )
 
 -- what a read prints, by its number (01, Program, 1 and 2)
 module _ (file : List ℕ) (lent : Lent) where
@@ -93,7 +119,10 @@ module _ (file : List ℕ) {a : FileAnswer} (answer : a ≡ file_answer (read_wh
     pub listable : Listable a after
     listable = subst₂ Listable (sym answer) (sym lists) (accepted_limits file noughts (sym number_is ∙ z))
 
-    pub prints_accepted : printed file ≡ listing a.book a.kept after.lists.buyers after.lists.elevators after.lists.sellers after.lists.lots after.lists.delivered after.lists.terminated after.lists.lapsed after.sums
+    -- and whose lists have room for it
+    pub roomy : Places after
+    roomy = subst Places (sym lists) (places (read_whole file noughts) (sym number_is ∙ z))
+
+    pub prints_accepted : printed file ≡ listing_bytes a.book a.kept after
     unfolding printed
-    prints_accepted =
-        prints_listing file noughts (sym number_is ∙ z) ∙ ap₂ listing_of (sym answer) (sym lists) ∙ listing_of_lem a after
+    prints_accepted = prints_listing file noughts (sym number_is ∙ z) ∙ ap₂ listing_of (sym answer) (sym lists)

@@ -6,7 +6,7 @@ ghost use Rattle.rules.specs.Book as Rules;
 ghost use Rattle.rules.specs.Book.{tails_blank};
 
 use rules::book::Book;
-use rules::limits::{NOTICE_PLACES, SECTION_PLACES, TRADES_MOST};
+use rules::limits::TRADES_MOST;
 
 pub mod keys;
 pub mod notices;
@@ -17,23 +17,17 @@ pub mod terms;
 fn tails_blank(b: Book) -> bool
     ensures { result ≡ tails_blank b }
 {
-    let mut i = b.held;
-    while i < SECTION_PLACES {
-        let s = b.sections[i];
-        if !sections::section_blank(s) {
-            return false;
-        }
-        i += 1;
-    }
-    let mut k = b.filed;
-    while k < NOTICE_PLACES {
-        let n = b.notices[k];
-        if !notices::notice_blank(n) {
-            return false;
-        }
-        k += 1;
-    }
-    true
+    let sections = b
+        .sections
+        .iter()
+        .skip(b.held)
+        .all(|s| sections::section_blank(*s));
+    let notices = b
+        .notices
+        .iter()
+        .skip(b.filed)
+        .all(|n| notices::notice_blank(*n));
+    sections & notices
 }
 
 // Whether the book keeps every rule and limit; a call refuses any other with 1 (01, Book, 1 and 2 and 3 and 4 and 5; 01, Value, 1).

@@ -1,12 +1,12 @@
 // The notices.
 ghost use Rattle.std.specs.Prelude.{◌≡◌, ◌+◌, ◌*◌, ◌≤◌};
-ghost use Rattle.rules.specs.Book.{elevators, filed_notices, notice_good, notice_blank, notices_good};
+ghost use Rattle.rules.specs.Book.{elevators, filed_notices, notice_good, blank_notice, notice_blank, notices_good};
 ghost use Rattle.rules.specs.Calls.{notice_filed};
 
 use crate::keys;
 use rules::book::{Book, Notice};
 use rules::limits::{ELEVATOR_MOST, ELEVATORS, NOTICE_LOTS_MOST};
-use value::signed;
+use rules::units::Lots;
 
 // Whether a notice keeps its limits (01, Notice, 1).
 fn notice_good(n: Notice, held: usize) -> bool
@@ -25,17 +25,21 @@ fn notice_good(n: Notice, held: usize) -> bool
     lots <= (NOTICE_LOTS_MOST as i64)
 }
 
+// A place of no notice (01, Book, 2).
+pub fn blank() -> Notice
+    ensures { result ≡ blank_notice }
+{
+    Notice {
+        section: 0,
+        elevator: 0,
+        lots: Lots(0),
+    }
+}
+
 pub fn notice_blank(n: Notice) -> bool
     ensures { result ≡ notice_blank n }
 {
-    if n.section != 0 {
-        return false;
-    }
-    if n.elevator != 0 {
-        return false;
-    }
-    let lots = n.lots.0;
-    signed::within(lots, 0)
+    n == blank()
 }
 
 // Whether a notice filed is of the section at the elevator (01, Notice, 1).
@@ -43,18 +47,10 @@ pub fn notice_filed(b: Book, section: u8, elevator: u8) -> bool
     requires { b.filed ≤ 256 }
     ensures { result ≡ notice_filed section elevator (filed_notices b) }
 {
-    let filed = b.filed;
-    let mut at = 0;
-    while at < filed {
-        let n = b.notices[at];
-        if section == n.section {
-            if elevator == n.elevator {
-                return true;
-            }
-        }
-        at += 1;
-    }
-    false
+    b.notices
+        .iter()
+        .take(b.filed)
+        .any(|n| (section == n.section) & (elevator == n.elevator))
 }
 
 // A section's number and an elevator's in one.
@@ -72,14 +68,12 @@ pub fn notices_good(b: Book) -> bool
 {
     let filed = b.filed;
     let mut places = [0; 256];
-    let mut i = 0;
-    while i < filed {
+    for i in 0..filed {
         let n = b.notices[i];
         if !notice_good(n, b.held) {
             return false;
         }
         places[i] = key(n.section, n.elevator);
-        i += 1;
     }
     keys::apart(&places[..filed])
 }

@@ -1,11 +1,12 @@
 // The sections.
 ghost use Rattle.std.specs.Prelude.{◌≡◌, ◌≤◌};
-ghost use Rattle.rules.specs.Book.{held_sections, section_good, section_blank, sections_good};
+ghost use Rattle.rules.specs.Book.{held_sections, section_good, blank_section, section_blank, sections_good};
 ghost use Rattle.rules.specs.Calls.{section_code_held};
 
 use crate::keys;
 use rules::book::{Book, Section};
 use rules::limits::{BASIS_CARRIED, BASIS_TRADE, POSITION_MOST, SETTLEMENT_MOST};
+use rules::units::{Kopecks, Lots};
 use value::signed;
 
 // Whether a section keeps its limits (01, Book, 3 and 4).
@@ -28,31 +29,25 @@ fn section_good(s: Section, trades: u32) -> bool
     signed::within(basis, BASIS_CARRIED + BASIS_TRADE * (trades as u64))
 }
 
+// A place of no section (01, Book, 2).
+pub fn blank() -> Section
+    ensures { result ≡ blank_section }
+{
+    Section {
+        settlement: 0,
+        code: [0; 7],
+        participant: 0,
+        seller: false,
+        met: false,
+        position: Lots(0),
+        basis: Kopecks(0),
+    }
+}
+
 pub fn section_blank(s: Section) -> bool
     ensures { result ≡ section_blank s }
 {
-    if s.settlement != 0 {
-        return false;
-    }
-    let code = s.code;
-    if !section_code::same_code(code, [0; 7]) {
-        return false;
-    }
-    if s.participant != 0 {
-        return false;
-    }
-    if s.seller {
-        return false;
-    }
-    if s.met {
-        return false;
-    }
-    let position = s.position.0;
-    if !signed::within(position, 0) {
-        return false;
-    }
-    let basis = s.basis.0;
-    signed::within(basis, 0)
+    s == blank()
 }
 
 // Whether a section held has the code (01, Section, 1).
@@ -60,17 +55,10 @@ pub fn code_held(b: Book, code: [u8; 7]) -> bool
     requires { b.held ≤ 128 }
     ensures { result ≡ section_code_held code (held_sections b) }
 {
-    let held = b.held;
-    let mut at = 0;
-    while at < held {
-        let s = b.sections[at];
-        let other = s.code;
-        if section_code::same_code(code, other) {
-            return true;
-        }
-        at += 1;
-    }
-    false
+    b.sections
+        .iter()
+        .take(b.held)
+        .any(|s| section_code::same_code(code, s.code))
 }
 
 // Whether every section held keeps its limits, no two codes are alike, and positions sum to zero and bases too, in one walk over the
@@ -83,8 +71,7 @@ pub fn sections_good(b: Book) -> bool
     let mut codes = [0; 128];
     let mut positions: i64 = 0;
     let mut bases: i64 = 0;
-    let mut i = 0;
-    while i < held {
+    for i in 0..held {
         let s = b.sections[i];
         if !section_good(s, b.trades) {
             return false;
@@ -95,7 +82,6 @@ pub fn sections_good(b: Book) -> bool
         codes[i] = section_code::key(code);
         positions = signed::sum(positions, position);
         bases = signed::sum(bases, basis);
-        i += 1;
     }
     if !keys::apart(&codes[..held]) {
         return false;

@@ -1,8 +1,6 @@
 -- The rows of an input, and what is printed for each: a year, a month and closed dates, in base ten, parted by one space.
-use Rattle.std.specs.Prelude.{ℕ, Bool, cond, leb, List, [], ◌∷◌, ◌++◌, map, length, drop}
-use Rattle.rules.specs.Words.{◌and◌, flat_map, entry, every, bytes, decimal, is_number, digits_value, parts_of}
-use Rattle.rules.specs.declared.dates.{LastDay.LastDay}
-use Rattle.rules.specs.declared.dates.LastDay.TheVariants.{On, Refused}
+use Rattle.std.specs.Prelude.{ℕ, Bool, cond, leb, List, [], ◌∷◌, ◌++◌, map, length, drop, Ok, Err}
+use Rattle.rules.specs.Words.{LastDay, ◌and◌, flat_map, entry, every, bytes, decimal, is_number, digits_value, parts_of}
 use Rattle.rules.specs.Listing.{row, refusal_row}
 use Rattle.rules.specs.LastTradingDay.{number_of_date, last_day_answer}
 
@@ -22,8 +20,8 @@ row_good text = leb (length text) row_most and every is_number (fields_of text) 
 
 -- what is printed: the date as one number, or the refusal (02, e, 2 and 5)
 unfoldable pub answer_row : LastDay → List ℕ
-answer_row (On d) = row (decimal (number_of_date d) ∷ [])
-answer_row (Refused number) = refusal_row number
+answer_row (Ok d) = row (decimal (number_of_date d) ∷ [])
+answer_row (Err number) = refusal_row number
 
 -- for a row, and for one that is not read (02, e, 2 and 5)
 abbrev pub bad_row : List ℕ

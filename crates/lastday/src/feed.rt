@@ -28,9 +28,8 @@ fn byte(b: u8, kept: &mut [u8], held: usize, out: &mut [u8], at: usize) -> Fed
     }
     if held < KEPT_BYTES {
         kept[held] = b;
-        let more = held + 1;
         return Fed {
-            held: more,
+            held: held + 1,
             written: at,
         };
     }
@@ -43,12 +42,8 @@ pub fn piece(bytes: &[u8], kept: &mut [u8], held: usize, out: &mut [u8]) -> Fed
     ensures { Feeding-as-Fed out.old 0 (text_of (take held kept.old) bytes.now) out.new result.written (kept_after (take held kept.old) bytes.now) kept.new result.held }
 {
     let mut fed = Fed { held, written: 0 };
-    let mut i = 0;
-    while i < bytes.len() {
-        let now_held = fed.held;
-        let now_written = fed.written;
-        fed = byte(bytes[i], kept, now_held, out, now_written);
-        i += 1;
+    for b in bytes {
+        fed = byte(*b, kept, fed.held, out, fed.written);
     }
     fed
 }

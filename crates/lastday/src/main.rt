@@ -2,7 +2,7 @@
 // (02, e, 2 and 5).
 #![tactic(auto)]
 
-ghost use Rattle.std.specs.Prelude.{◌≡◌, ◌≤◌, length, IfOk};
+ghost use Rattle.std.specs.Prelude.{◌≡◌, ◌≤◌, length, IfOk, MatchOption, ⊤};
 ghost use Rattle.lastday.specs.Feeding.{kept_most};
 
 use feed::KEPT_BYTES;
@@ -18,14 +18,8 @@ const PIECE_BYTES: usize = 4_096;
 
 const TEXT_BYTES: usize = 45_056;
 
-// Whether to read on, and how many bytes are kept of the row that has not ended.
-#[derive(Drop)]
-struct Turn {
-    more: bool,
-    held: usize,
-}
-
-// Reads a piece of the input and prints what rows end in it; at the end of the input, the row that ends there. After a failure nothing more is read or printed.
+// Reads a piece of the input and prints what rows end in it, and answers how many bytes are kept of the row that has not ended; at the end of the input it
+// prints the row that ends there, and keeps none. After a failure nothing more is read or printed.
 fn print_piece(
     input: &mut impl Read,
     rt: &impl Print,
@@ -33,43 +27,34 @@ fn print_piece(
     kept: &mut [u8],
     held: usize,
     out: &mut [u8],
-) -> io::Result<Turn>
+) -> io::Result<Option<usize>>
     requires { (length piece.old ≤ 4_096) × (length kept.old ≡ kept_most) × (held ≤ kept_most) × (length out.old ≡ 45_056) }
-    ensures { IfOk result (λ turn. turn.held ≤ kept_most) }
+    ensures { IfOk result (λ left. MatchOption left ⊤ (λ few. few ≤ kept_most)) }
 {
     let count = program_io::read_some(input, piece)?;
     if count == 0 {
         let last = feed::end(&kept[..held], out);
         program_io::write_output(rt, &out[..last])?;
-        return Ok(Turn {
-            more: false,
-            held: 0,
-        });
+        return Ok(None);
     }
     let fed = feed::piece(&piece[..count], kept, held, out);
-    let left = fed.held;
-    let written = fed.written;
-    program_io::write_output(rt, &out[..written])?;
-    Ok(Turn {
-        more: true,
-        held: left,
-    })
+    program_io::write_output(rt, &out[..fed.written])?;
+    Ok(Some(fed.held))
 }
 
-// A proved loop has to end, and nothing says that an input does: so the turns are counted down from a number that no run uses up.
+// A proved loop has to end, and nothing says that an input does: so the turns have an end that no run comes to.
 fn main(rt: HostRuntime) -> io::Result<()> {
     let mut input = rt.stdin();
     let mut piece = [0; PIECE_BYTES];
     let mut kept = [0; KEPT_BYTES];
     let mut out = [0; TEXT_BYTES];
-    let mut more = true;
     let mut held = 0;
-    let mut turns = u64::MAX;
-    while (0 < turns) & more {
-        let turn = print_piece(&mut input, &rt, &mut piece, &mut kept, held, &mut out)?;
-        more = turn.more;
-        held = turn.held;
-        turns -= 1;
+    for _ in 0..u64::MAX {
+        let left = print_piece(&mut input, &rt, &mut piece, &mut kept, held, &mut out)?;
+        let Some(more) = left else {
+            break;
+        };
+        held = more;
     }
     Ok(())
 }

@@ -1,5 +1,6 @@
 // What is printed for a row, written into a buffer from a place on. Each function answers the next place.
 ghost use Rattle.std.specs.Prelude.{◌+◌, ◌≤◌, length};
+ghost use Rattle.rules.specs.Answers.{numbered};
 ghost use Rattle.listing.specs.Laid.{Laid};
 ghost use Rattle.lastday.specs.Rows.{answer_row, bad_row, row_answer};
 
@@ -7,8 +8,8 @@ use crate::fields;
 use crate::fields::{NUMBERS_MOST, ROW_BYTES};
 use listing::text;
 use listing::text::LINE_END;
-use rules::dates::LastDay;
-use trading_day::numbered;
+use rules::dates::Date;
+use rules::refusal::Refusal;
 
 // For a row that is not read.
 fn bad(out: &mut [u8], at: usize) -> usize
@@ -19,16 +20,19 @@ fn bad(out: &mut [u8], at: usize) -> usize
 }
 
 // For an answer: its date as one number, or its refusal (02, e, 2 and 5).
-fn answered(answer: LastDay, out: &mut [u8], at: usize) -> usize
-    requires { at + length (answer_row answer) ≤ length out.old }
-    ensures { Laid out.old at (answer_row answer) out.new result }
+fn answered(answer: Result<Date, Refusal>, out: &mut [u8], at: usize) -> usize
+    requires { at + length (answer_row (numbered answer)) ≤ length out.old }
+    ensures { Laid out.old at (answer_row (numbered answer)) out.new result }
 {
     match answer {
-        LastDay::On(date) => {
-            let number = numbered::number_of(date);
+        Ok(date) => {
+            let number = trading_day::numbered::number_of(date);
             text::number(number, LINE_END, out, at)
         }
-        LastDay::Refused(number) => listing::refusal(number, out, at),
+        Err(refusal) => {
+            let number = listing::number_of(refusal);
+            listing::refusal(number, out, at)
+        }
     }
 }
 
@@ -41,7 +45,9 @@ pub fn answer_to(row: &[u8], out: &mut [u8], at: usize) -> usize
         return bad(out, at);
     }
     let mut numbers = [0; NUMBERS_MOST];
-    let count = fields::read(row, &mut numbers);
+    let Some(count) = fields::read(row, &mut numbers) else {
+        return bad(out, at);
+    };
     if count < 2 {
         return bad(out, at);
     }

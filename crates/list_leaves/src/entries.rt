@@ -1,53 +1,57 @@
-// Entry i of a list, 0 past its end, for each width.
-ghost use Rattle.std.specs.Prelude.{◌≡◌};
-ghost use Rattle.rules.specs.Words.{entry, entry_ℤ};
+// Entry i of a list, 0 past its end.
+ghost use Rattle.std.specs.Prelude.{◌≡◌, get_or, pos};
 
-// Lots, or keys.
-pub fn nth(list: &[u64], i: usize) -> u64
-    ensures { result ≡ entry list.now i }
-{
-    if i < list.len() {
-        return list[i];
-    }
-    0
+// A number of a width: lots, keys, positions, places, participants.
+pub trait Number: Copy {
+    ghost zero: { Self };
+
+    fn zero() -> Self
+        ensures { result ≡ zero };
 }
 
-// A number of a section, of an elevator or of a settlement code.
-pub fn nth_byte(list: &[u8], i: usize) -> u8
-    ensures { result ≡ entry list.now i }
-{
-    if i < list.len() {
-        return list[i];
+impl Number for u8 {
+    ghost zero = { 0 };
+
+    fn zero() -> u8 {
+        0
     }
-    0
 }
 
-// A position, or a net.
-pub fn nth_signed(list: &[i64], i: usize) -> i64
-    ensures { result ≡ entry_ℤ list.now i }
-{
-    if i < list.len() {
-        return list[i];
+impl Number for u32 {
+    ghost zero = { 0 };
+
+    fn zero() -> u32 {
+        0
     }
-    0
 }
 
-// A place, in an order.
-pub fn nth_place(list: &[usize], i: usize) -> usize
-    ensures { result ≡ entry list.now i }
-{
-    if i < list.len() {
-        return list[i];
+impl Number for u64 {
+    ghost zero = { 0 };
+
+    fn zero() -> u64 {
+        0
     }
-    0
 }
 
-// The lots of a line, or a participant.
-pub fn nth_small(list: &[u32], i: usize) -> u32
-    ensures { result ≡ entry list.now i }
-{
-    if i < list.len() {
-        return list[i];
+impl Number for usize {
+    ghost zero = { 0 };
+
+    fn zero() -> usize {
+        0
     }
-    0
+}
+
+impl Number for i64 {
+    ghost zero = { pos 0 };
+
+    fn zero() -> i64 {
+        0
+    }
+}
+
+// Entry i, 0 past the end: of whole numbers it is `entry`, of numbers with a sign `entry_ℤ`.
+pub fn nth<N: Number>(list: &[N], i: usize) -> N
+    ensures { result ≡ get_or list.now i N.zero }
+{
+    list.get(i).copied().unwrap_or(N::zero())
 }

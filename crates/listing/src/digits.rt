@@ -2,7 +2,7 @@
 ghost use Rattle.std.specs.Prelude.{◌≡◌, ◌<◌, ◌+◌, ◌%◌, length, drop};
 ghost use Rattle.rules.specs.Words.{decimal};
 
-// The digits of a number, written from the back; it answers where they start (01, Program, 1).
+// The digits of a number, written from the back; it answers where they start (01, Program, 1). (The loop ends where less than ten is left.)
 pub fn laid(n: u64, digits: &mut [u8]) -> usize
     requires { length digits.old ≡ 20 }
     ensures { (result < 20) × (drop result digits.new ≡ decimal n) }

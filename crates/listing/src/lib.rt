@@ -2,12 +2,16 @@
 #![tactic(auto)]
 
 ghost use Rattle.std.specs.Prelude.{ℕ, ◌≡◌, ◌+◌, ◌≤◌, ◌<◌, length};
+ghost use Rattle.rules.specs.Answers.{refusal_number};
 ghost use Rattle.rules.specs.Words.{entry, over};
-ghost use Rattle.rules.specs.Listing.{refusal_row};
-ghost use Rattle.listing.specs.Columns.{refused_row, listing};
+ghost use Rattle.rules.specs.Lent.{lent_of};
+ghost use Rattle.rules.specs.Listing.{listing_bytes, refusal_row};
+ghost use Rattle.listing.specs.Columns.{refused_row};
 ghost use Rattle.listing.specs.Laid.{Laid};
 
 use rules::book::Book;
+use rules::lists::ReadLists;
+use rules::refusal::Refusal;
 
 pub mod codes;
 mod digits;
@@ -16,34 +20,29 @@ pub mod text;
 
 // The listing of an expired book, its register and its lists: how many lines are kept, a row for each of them, a row for each section. It
 // answers how many bytes were written; later ones remain (01, Program, 1 and 3; 01, Forms, 7; 01, Bound, a; 02, a, 4 and 6).
-pub fn accepted(
-    b: Book,
-    kept: usize,
-    buyers: &[u8],
-    elevators: &[u8],
-    sellers: &[u8],
-    lots: &[u32],
-    delivered: &[u32],
-    terminated: &[u32],
-    lapsed: &[u32],
-    sums: &[i64],
-    out: &mut [u8],
-) -> usize
+pub fn accepted(b: Book, kept: usize, lists: &ReadLists, out: &mut [u8]) -> usize
     requires held_bound { (b.held ≤ 128) × (b.lot.0 ≤ 1_000) }
-    requires kept_in_bounds { (kept ≤ length buyers.now) × (kept ≤ length elevators.now) × (kept ≤ length sellers.now) × (kept ≤ length lots.now) }
-    requires held_in_bounds { (b.held ≤ length delivered.now) × (b.held ≤ length terminated.now) × (b.held ≤ length lapsed.now) × (b.held ≤ length sums.now) }
-    requires by_index { (i : ℕ) → i < kept → (entry buyers.now i < 128) × (entry sellers.now i < 128) × (entry lots.now i ≤ 1_000_000) }
-    requires sums_in_bounds { length (listing b kept buyers.now elevators.now sellers.now lots.now delivered.now terminated.now lapsed.now sums.now) ≤ length out.old }
-    ensures value { result ≡ length (listing b kept buyers.now elevators.now sellers.now lots.now delivered.now terminated.now lapsed.now sums.now) }
-    ensures out_after { out.new ≡ over (listing b kept buyers.now elevators.now sellers.now lots.now delivered.now terminated.now lapsed.now sums.now) out.old }
+    requires kept_in_bounds { (kept ≤ length lists.now.expiry.buyers.now) × (kept ≤ length lists.now.expiry.elevators.now) × (kept ≤ length lists.now.expiry.sellers.now) × (kept ≤ length lists.now.expiry.lots.now) }
+    requires held_in_bounds { (b.held ≤ length lists.now.expiry.delivered.now) × (b.held ≤ length lists.now.expiry.terminated.now) × (b.held ≤ length lists.now.expiry.lapsed.now) × (b.held ≤ length lists.now.sums.now) }
+    requires by_index { (i : ℕ) → i < kept → (entry lists.now.expiry.buyers.now i < 128) × (entry lists.now.expiry.sellers.now i < 128) × (entry lists.now.expiry.lots.now i ≤ 1_000_000) }
+    requires sums_in_bounds { length (listing_bytes b kept (lent_of lists.now)) ≤ length out.old }
+    ensures value { result ≡ length (listing_bytes b kept (lent_of lists.now)) }
+    ensures out_after { out.new ≡ over (listing_bytes b kept (lent_of lists.now)) out.old }
 {
     let lot = b.lot;
     let held = b.held;
     let mut codes = [0; 896];
     codes::laid(b, &mut codes);
     let at = rows::head(kept, out, 0);
-    let at = rows::lines(&codes, buyers, elevators, sellers, lots, lot, kept, out, at);
-    rows::sections(&codes, delivered, terminated, lapsed, sums, held, out, at)
+    let at = rows::lines(&codes, &lists.expiry, lot, kept, out, at);
+    rows::sections(&codes, lists, held, out, at)
+}
+
+// A refusal's number, as a row shows it (01, Book, 6).
+pub fn number_of(refusal: Refusal) -> u8
+    ensures { result ≡ refusal_number refusal }
+{
+    refusal as u8
 }
 
 // A refused file's row: the number and the place of its refusal. It answers how many bytes were written; later ones remain

@@ -2,11 +2,13 @@
 ghost use Rattle.std.specs.Prelude.{ℕ, ◌+◌, ◌≡◌, ◌≤◌, ◌<◌, nat_abs, length};
 ghost use Rattle.rules.specs.Words.{entry};
 ghost use Rattle.rules.specs.Units;
+ghost use Rattle.rules.specs.Lent.{lists_of, lent_of};
 ghost use Rattle.listing.specs.Columns.{head_row, line_row_of, line_rows, lots_fields, section_row_of, section_rows};
 ghost use Rattle.listing.specs.Laid.{Laid};
 
 use crate::text;
 use crate::text::{LINE_END, SPACE};
+use rules::lists::{ExpiryLists, ReadLists};
 use rules::units::{Lots, Tonnes};
 use value::signed;
 
@@ -29,21 +31,25 @@ pub fn tonnes(lot: Tonnes, lots: Lots) -> Tonnes
     Tonnes((size as u32) * each)
 }
 
-// A line's row: buyer's code, elevator, seller's code, lots, tonnes (01, Program, 1).
+// The row of line number i: buyer's code, elevator, seller's code, lots, tonnes (01, Program, 1).
 fn line(
-    codes: &[u8],
+    codes: &[u8; 896],
+    lists: &ExpiryLists,
     lot: Tonnes,
-    buyer: u8,
-    elevator: u8,
-    seller: u8,
-    lots: u32,
+    i: usize,
     out: &mut [u8],
     at: usize,
 ) -> usize
-    requires codes_len { (length codes.now ≡ 896) × (lot.0 ≤ 1_000) × (buyer < 128) × (seller < 128) × (lots ≤ 1_000_000) }
-    requires lots_in_bounds { at + length (line_row_of codes.now lot buyer elevator seller lots) ≤ length out.old }
-    ensures { Laid out.old at (line_row_of codes.now lot buyer elevator seller lots) out.new result }
+    requires lot_bound { lot.0 ≤ 1_000 }
+    requires i_in_bounds { (i < length lists.now.buyers.now) × (i < length lists.now.elevators.now) × (i < length lists.now.sellers.now) × (i < length lists.now.lots.now) }
+    requires at_index { (entry lists.now.buyers.now i < 128) × (entry lists.now.sellers.now i < 128) × (entry lists.now.lots.now i ≤ 1_000_000) }
+    requires lots_in_bounds { at + length (line_row_of codes.now lot (lists_of lists.now) i) ≤ length out.old }
+    ensures { Laid out.old at (line_row_of codes.now lot (lists_of lists.now) i) out.new result }
 {
+    let buyer = lists.buyers[i];
+    let elevator = lists.elevators[i];
+    let seller = lists.sellers[i];
+    let lots = lists.lots[i];
     let weight = tonnes(lot, Lots(lots as i64));
     let at = text::code(codes, buyer as usize, SPACE, out, at);
     let at = text::number(elevator as u64, SPACE, out, at);
@@ -53,8 +59,9 @@ fn line(
 }
 
 // A section's code, delivered, terminated and lapsed lots, and the byte that ends the last of them (01, Program, 1; 02, a, 4).
+// (The lots come by value and not by their lists: `terminated_and_lapsed_swapped.edit` of `calls_listing` swaps them there.)
 pub fn lots(
-    codes: &[u8],
+    codes: &[u8; 896],
     i: usize,
     delivered: u32,
     terminated: u32,
@@ -63,7 +70,7 @@ pub fn lots(
     out: &mut [u8],
     at: usize,
 ) -> usize
-    requires codes_len { (length codes.now ≡ 896) × (i < 128) }
+    requires i_in_bounds { i < 128 }
     requires end_in_bounds { at + length (lots_fields codes.now i delivered terminated lapsed end) ≤ length out.old }
     ensures { Laid out.old at (lots_fields codes.now i delivered terminated lapsed end) out.new result }
 {
@@ -73,90 +80,57 @@ pub fn lots(
     text::number(lapsed as u64, end, out, at)
 }
 
-// A section's row: code, delivered, terminated, lapsed, sum of its margins (01, Program, 1; 02, a, 4).
-fn section(
-    codes: &[u8],
-    i: usize,
-    delivered: u32,
-    terminated: u32,
-    lapsed: u32,
-    sum: i64,
-    out: &mut [u8],
-    at: usize,
-) -> usize
-    requires codes_len { (length codes.now ≡ 896) × (i < 128) }
-    requires sum_in_bounds { at + length (section_row_of codes.now i delivered terminated lapsed sum) ≤ length out.old }
-    ensures { Laid out.old at (section_row_of codes.now i delivered terminated lapsed sum) out.new result }
+// The row of section number i: code, delivered, terminated, lapsed, sum of its margins (01, Program, 1; 02, a, 4).
+fn section(codes: &[u8; 896], lists: &ReadLists, i: usize, out: &mut [u8], at: usize) -> usize
+    requires i_in_bounds { (i < 128) × (i < length lists.now.expiry.delivered.now) × (i < length lists.now.expiry.terminated.now) × (i < length lists.now.expiry.lapsed.now) × (i < length lists.now.sums.now) }
+    requires sum_in_bounds { at + length (section_row_of codes.now (lent_of lists.now) i) ≤ length out.old }
+    ensures { Laid out.old at (section_row_of codes.now (lent_of lists.now) i) out.new result }
 {
+    let delivered = lists.expiry.delivered[i];
+    let terminated = lists.expiry.terminated[i];
+    let lapsed = lists.expiry.lapsed[i];
+    let sum = lists.sums[i];
     let at = lots(codes, i, delivered, terminated, lapsed, SPACE, out, at);
     text::whole(sum, LINE_END, out, at)
 }
 
 // The rows of the first lines of the register (01, Program, 1).
 pub fn lines(
-    codes: &[u8],
-    buyers: &[u8],
-    elevators: &[u8],
-    sellers: &[u8],
-    lots: &[u32],
+    codes: &[u8; 896],
+    lists: &ExpiryLists,
     lot: Tonnes,
     lines: usize,
     out: &mut [u8],
     at: usize,
 ) -> usize
-    requires codes_len { (length codes.now ≡ 896) × (lot.0 ≤ 1_000) }
-    requires lines_in_bounds { (lines ≤ length buyers.now) × (lines ≤ length elevators.now) × (lines ≤ length sellers.now) × (lines ≤ length lots.now) }
-    requires by_index { (i : ℕ) → i < lines → (entry buyers.now i < 128) × (entry sellers.now i < 128) × (entry lots.now i ≤ 1_000_000) }
-    requires lines_in_bounds_2 { at + length (line_rows codes.now lot buyers.now elevators.now sellers.now lots.now lines) ≤ length out.old }
-    ensures { Laid out.old at (line_rows codes.now lot buyers.now elevators.now sellers.now lots.now lines) out.new result }
+    requires lot_bound { lot.0 ≤ 1_000 }
+    requires lines_in_bounds { (lines ≤ length lists.now.buyers.now) × (lines ≤ length lists.now.elevators.now) × (lines ≤ length lists.now.sellers.now) × (lines ≤ length lists.now.lots.now) }
+    requires by_index { (i : ℕ) → i < lines → (entry lists.now.buyers.now i < 128) × (entry lists.now.sellers.now i < 128) × (entry lists.now.lots.now i ≤ 1_000_000) }
+    requires lines_in_bounds_2 { at + length (line_rows codes.now lot (lists_of lists.now) lines) ≤ length out.old }
+    ensures { Laid out.old at (line_rows codes.now lot (lists_of lists.now) lines) out.new result }
 {
     let mut next = at;
-    let mut i = 0;
-    while i < lines {
-        next = line(
-            codes,
-            lot,
-            buyers[i],
-            elevators[i],
-            sellers[i],
-            lots[i],
-            out,
-            next,
-        );
-        i += 1;
+    for i in 0..lines {
+        next = line(codes, lists, lot, i, out, next);
     }
     next
 }
 
 // The rows of the sections held, by number (01, Program, 1; 02, a, 4).
 pub fn sections(
-    codes: &[u8],
-    delivered: &[u32],
-    terminated: &[u32],
-    lapsed: &[u32],
-    sums: &[i64],
+    codes: &[u8; 896],
+    lists: &ReadLists,
     held: usize,
     out: &mut [u8],
     at: usize,
 ) -> usize
-    requires codes_len { (length codes.now ≡ 896) × (held ≤ 128) × (held ≤ length delivered.now) × (held ≤ length terminated.now) × (held ≤ length lapsed.now) × (held ≤ length sums.now) }
-    requires held_in_bounds { at + length (section_rows codes.now delivered.now terminated.now lapsed.now sums.now held) ≤ length out.old }
-    ensures { Laid out.old at (section_rows codes.now delivered.now terminated.now lapsed.now sums.now held) out.new result }
+    requires held_bound { (held ≤ 128) × (held ≤ length lists.now.expiry.delivered.now) × (held ≤ length lists.now.expiry.terminated.now) × (held ≤ length lists.now.expiry.lapsed.now) × (held ≤ length lists.now.sums.now) }
+    requires held_in_bounds { at + length (section_rows codes.now (lent_of lists.now) held) ≤ length out.old }
+    ensures { Laid out.old at (section_rows codes.now (lent_of lists.now) held) out.new result }
 {
     let mut next = at;
-    let mut i = 0;
-    while i < held {
-        next = section(
-            codes,
-            i,
-            delivered[i],
-            terminated[i],
-            lapsed[i],
-            sums[i],
-            out,
-            next,
-        );
-        i += 1;
+    for i in 0..held {
+        next = section(codes, lists, i, out, next);
     }
     next
 }

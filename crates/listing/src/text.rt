@@ -1,4 +1,5 @@
 // Texts and numbers, each with the byte that ends it, written into a buffer from a place on. Each answers the next place.
+// (Buffer and place stay side by side: a struct of both asks in each contract and loop one clause more, that it still borrows the same buffer.)
 ghost use Rattle.std.specs.Prelude.{◌+◌, ◌*◌, ◌≤◌, ◌<◌, [], ◌∷◌, length};
 ghost use Rattle.rules.specs.Words.{decimal, signed_decimal};
 ghost use Rattle.rules.specs.Listing.{row};
@@ -6,7 +7,6 @@ ghost use Rattle.listing.specs.Columns.{code_at, field};
 ghost use Rattle.listing.specs.Laid.{Laid};
 
 use crate::digits;
-use file_operand::bytes;
 use value::signed;
 
 // What parts two fields, and what ends a row (01, Program, 3).
@@ -21,7 +21,7 @@ pub fn word(text: &[u8], end: u8, out: &mut [u8], at: usize) -> usize
     ensures { Laid out.old at (field text.now end) out.new result }
 {
     let next = at + text.len();
-    bytes::put(out, at, text);
+    out[at..next].copy_from_slice(text);
     out[next] = end;
     next + 1
 }
@@ -42,8 +42,9 @@ pub fn decimal_digits(n: u64, out: &mut [u8], at: usize) -> usize
 {
     let mut digits = [0; 20];
     let from = digits::laid(n, &mut digits);
-    bytes::put(out, at, &digits[from..]);
-    at + (20 - from)
+    let next = at + (20 - from);
+    out[at..next].copy_from_slice(&digits[from..]);
+    next
 }
 
 pub fn number(n: u64, end: u8, out: &mut [u8], at: usize) -> usize
@@ -64,7 +65,7 @@ pub fn row(name: &[u8], n: u64, out: &mut [u8], at: usize) -> usize
     number(n, LINE_END, out, next)
 }
 
-// A row of a word and two numbers (01, Program, 3).
+// A row of a word and two numbers (01, Program, 3). (One function over a list of numbers is longer than both: a loop, and a test for the last.)
 pub fn row_of_two(name: &[u8], n: u64, m: u64, out: &mut [u8], at: usize) -> usize
     requires { at + length (row (name.now ∷ decimal n ∷ decimal m ∷ [])) ≤ length out.old }
     ensures { Laid out.old at (row (name.now ∷ decimal n ∷ decimal m ∷ [])) out.new result }

@@ -11,6 +11,7 @@ use crate::failing::Failed;
 use crate::in_codes::InCodes;
 use crate::outside::Outside;
 use crate::{across, drawing, failing, in_codes, outside};
+use method_steps::columns::SectionColumns;
 use rules::book::Book;
 
 // Steps 1 to 5 of an expiry, each with its numbers.
@@ -36,12 +37,17 @@ pub fn account_of(
     ensures { AccountOf b result }
 {
     let held = b.held;
+    let columns = SectionColumns {
+        codes,
+        positions,
+        keys,
+    };
     let first = failing::who_fails(b, selling, stock);
     let failed = first.failed;
-    let second = in_codes::close_codes(codes, positions, keys, &failed[..held]);
-    let third = across::close_across(codes, positions, keys, second);
+    let second = in_codes::close_codes(columns, &failed[..held]);
+    let third = across::close_across(columns, second);
     let kept = third.kept;
-    let fourth = outside::part(codes, positions, keys, kept);
+    let fourth = outside::part(columns, kept);
     let near = fourth.near;
     let fifth = drawing::draw(positions, selling, stock, &kept[..held], &near[..held]);
     Account {

@@ -1,8 +1,8 @@
 // Step 3: what is left open is closed over all settlement codes together.
 ghost use Rattle.std.specs.Prelude.{ℕ, List, take, length};
 ghost use Rattle.rules.specs.declared.book.Section.{Section};
-ghost use Rattle.method_laws.specs.Columns.{Columns, Small};
-ghost use Rattle.method_steps.specs.Held.{Held};
+ghost use Rattle.method_laws.specs.Columns.{Small};
+ghost use Rattle.method_steps.specs.Held.{Lent, Of};
 ghost use Rattle.method_account.specs.Steps.{InCodesOf, Closed, AcrossOf};
 
 use crate::giving;
@@ -11,6 +11,7 @@ use crate::in_codes::InCodes;
 use method_giving::lists;
 use method_holding::nets;
 use method_steps::across;
+use method_steps::columns::SectionColumns;
 use rules::limits::{SECTION_PLACES, SETTLEMENT_CODES};
 
 // D, the net of each settlement code's sound lots, what the sections give towards D, and what is kept.
@@ -23,11 +24,13 @@ pub struct Across {
 }
 
 // D closed, after the settlement codes (01, Expiry, 3.1; 01, Expiry, 3.2; 01, Expiry, 3.3).
-pub fn close_across(codes: &[u8], positions: &[i64], keys: &[u64], before: InCodes) -> Across
-    requires { Held codes.now positions.now keys.now (length codes.now) × Closed (length codes.now) before }
-    ensures across_of { (ss : List Section) (failed : List ℕ) → Columns ss codes.now positions.now keys.now → InCodesOf (length codes.now) ss failed before → AcrossOf (length codes.now) ss failed result }
-    ensures small { Small (take (length codes.now) result.kept) }
+pub fn close_across(columns: SectionColumns<'_>, before: InCodes) -> Across
+    requires { Lent columns (length columns.codes.now) × Closed (length columns.codes.now) before }
+    ensures across_of { (ss : List Section) (failed : List ℕ) → Of ss columns.entry → InCodesOf (length columns.entry.codes.now) ss failed before → AcrossOf (length columns.entry.codes.now) ss failed result }
+    ensures small { Small (take (length columns.entry.codes.now) result.kept) }
 {
+    let codes = columns.codes;
+    let positions = columns.positions;
     let held = codes.len();
     let gaps = before.gaps;
     let gave = before.giving.given;
@@ -37,7 +40,7 @@ pub fn close_across(codes: &[u8], positions: &[i64], keys: &[u64], before: InCod
     nets::nets(codes, positions, &gave[..held], &mut net);
     let d = across::left_open(&gaps, &net);
     nets::nets(codes, positions, &kept[..held], &mut sound);
-    let giving = giving::over_codes(codes, positions, keys, d, &kept[..held]);
+    let giving = giving::over_codes(columns, d, &kept[..held]);
     let given = giving.given;
     lists::less(&mut kept[..held], &given[..held]);
     Across {

@@ -1,14 +1,15 @@
 // Step 2: each settlement code is closed by itself.
 ghost use Rattle.std.specs.Prelude.{List, length};
 ghost use Rattle.rules.specs.declared.book.Section.{Section};
-ghost use Rattle.method_laws.specs.Columns.{Columns, Small};
-ghost use Rattle.method_steps.specs.Held.{Held};
+ghost use Rattle.method_laws.specs.Columns.{Small};
+ghost use Rattle.method_steps.specs.Held.{Lent, Of};
 ghost use Rattle.method_account.specs.Steps.{InCodesOf, Closed};
 
 use crate::giving;
 use crate::giving::Giving;
 use method_giving::lists;
 use method_holding::nets;
+use method_steps::columns::SectionColumns;
 use rules::limits::{SECTION_PLACES, SETTLEMENT_CODES};
 
 // D(c) of each settlement code, what the sound sections give towards it, and what is left of them.
@@ -20,18 +21,18 @@ pub struct InCodes {
 }
 
 // The settlement codes closed, given what fails (01, Expiry, 2.1; 01, Expiry, 2.2).
-pub fn close_codes(codes: &[u8], positions: &[i64], keys: &[u64], failed: &[u64]) -> InCodes
-    requires { Held codes.now positions.now keys.now (length failed.now) × Small failed.now }
-    ensures in_codes_of { (ss : List Section) → Columns ss codes.now positions.now keys.now → InCodesOf (length failed.now) ss failed.now result }
+pub fn close_codes(columns: SectionColumns<'_>, failed: &[u64]) -> InCodes
+    requires { Lent columns (length failed.now) × Small failed.now }
+    ensures in_codes_of { (ss : List Section) → Of ss columns.entry → InCodesOf (length failed.now) ss failed.now result }
     ensures closed { Closed (length failed.now) result }
 {
     let held = failed.len();
     let mut gaps = [0; SETTLEMENT_CODES];
     let mut left = [0; SECTION_PLACES];
-    nets::nets(codes, positions, failed, &mut gaps);
-    lists::magnitudes(positions, &mut left[..held]);
+    nets::nets(columns.codes, columns.positions, failed, &mut gaps);
+    lists::magnitudes(columns.positions, &mut left[..held]);
     lists::less(&mut left[..held], failed);
-    let giving = giving::by_code(codes, positions, keys, &gaps, false, &left[..held]);
+    let giving = giving::by_code(columns, &gaps, false, &left[..held]);
     let given = giving.given;
     lists::less(&mut left[..held], &given[..held]);
     InCodes { gaps, giving, left }

@@ -3,7 +3,6 @@ ghost use Rattle.std.specs.Prelude.{◌<◌};
 ghost use Rattle.rules.specs.declared.book.Book.{Book};
 ghost use Rattle.method_account.specs.Passes.{inside_of, outside_of, Near, Far, Behind, PassOf};
 
-use method_giving::lists;
 use method_register::chosen;
 use method_stages::{Stages, one_pass};
 use rules::limits::{NOTICE_PLACES, SECTION_PLACES};
@@ -61,9 +60,9 @@ pub fn outside_pass(
     let filed = beyond.len();
     let mut buyers = [0; SECTION_PLACES];
     let mut drawn = [0; NOTICE_PLACES];
-    lists::copy(far, &mut buyers[..held]);
+    buyers[..held].copy_from_slice(far);
     chosen::keep_long(positions, &mut buyers[..held]);
-    lists::copy(beyond, &mut drawn[..filed]);
+    drawn[..filed].copy_from_slice(beyond);
     let stages = one_pass::stages(keys, &buyers[..held], selling, stands, &drawn[..filed]);
     Pass {
         buyers,

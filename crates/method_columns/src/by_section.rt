@@ -9,13 +9,10 @@ pub fn add(numbers: &[u8], lots: &[u64], sums: &mut [u64])
     requires small { Small lots.now × ((i : ℕ) → entry sums.old i ≤ 382_000_000) }
     ensures { sums.new ≡ listed (length sums.old) (λ (i : ℕ). entry sums.old i + lots_at numbers.now lots.now i) }
 {
-    let all = numbers.len();
-    let mut k = 0;
-    while k < all {
+    for k in 0..numbers.len() {
         let i = numbers[k] as usize;
         let own = lots[k];
         let before = sums[i];
         sums[i] = before + own;
-        k += 1;
     }
 }

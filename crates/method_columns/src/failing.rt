@@ -10,7 +10,6 @@ ghost use Rattle.method_columns.specs.Failing.{failed_lots, failing_with};
 
 use crate::by_section;
 use rules::book::{Book, Section};
-use value::signed;
 
 // The lots of each section's notices, in one walk over the notices; `sums` is noughts at first (01, Expiry, 1.1).
 pub fn noticed(sellers: &[u8], lots: &[u64], sums: &mut [u64])
@@ -26,7 +25,7 @@ fn failed(met: bool, s: Section, noticed: u64) -> u64
     ensures { result ≡ failed_lots met s noticed }
 {
     let position = s.position.0;
-    let own = signed::size(position);
+    let own = position.unsigned_abs();
     let sound = 0;
     let condition = met | s.met;
     if !condition {
@@ -49,11 +48,7 @@ pub fn failing(b: Book, sums: &[u64], met: bool, lots: &mut [u64])
     requires { (good b ≡ true) × (length lots.old ≡ b.held) × (sums.now ≡ listed b.held (Failing.noticed (filed_notices b))) }
     ensures { lots.new ≡ failing_with met b }
 {
-    let held = b.held;
-    let mut i = 0;
-    while i < held {
-        let s = b.sections[i];
-        lots[i] = failed(met, s, sums[i]);
-        i += 1;
+    for i in 0..b.held {
+        lots[i] = failed(met, b.sections[i], sums[i]);
     }
 }

@@ -5,7 +5,6 @@ ghost use Rattle.rules.specs.Expiry.Passes.{sellers_in, elevators_in};
 ghost use Rattle.method_laws.specs.Columns.{notice_lots_in};
 
 use rules::book::Book;
-use value::signed;
 
 // Sellers, elevators and lots, in one walk (01, Expiry, 5.1).
 pub fn fill(b: Book, sellers: &mut [u8], stands: &mut [u8], lots: &mut [u64])
@@ -14,14 +13,11 @@ pub fn fill(b: Book, sellers: &mut [u8], stands: &mut [u8], lots: &mut [u64])
     ensures stands_after { stands.new ≡ elevators_in (filed_notices b) }
     ensures lots_after { lots.new ≡ notice_lots_in (filed_notices b) }
 {
-    let filed = b.filed;
-    let mut k = 0;
-    while k < filed {
+    for k in 0..b.filed {
         let n = b.notices[k];
         let own = n.lots.0;
         sellers[k] = n.section;
         stands[k] = n.elevator;
-        lots[k] = signed::size(own);
-        k += 1;
+        lots[k] = own.unsigned_abs();
     }
 }

@@ -10,11 +10,8 @@ pub fn fill(b: Book, participants: &mut [u32])
     requires { (good b ≡ true) × (length participants.old ≡ b.held) }
     ensures { participants.new ≡ participants_of (held_sections b) }
 {
-    let held = b.held;
-    let mut i = 0;
-    while i < held {
+    for i in 0..b.held {
         let s = b.sections[i];
         participants[i] = s.participant;
-        i += 1;
     }
 }

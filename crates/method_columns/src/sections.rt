@@ -12,15 +12,12 @@ pub fn fill(b: Book, codes: &mut [u8], positions: &mut [i64], keys: &mut [u64])
     ensures positions_after { positions.new ≡ positions_of (held_sections b) }
     ensures keys_after { keys.new ≡ keys_of (held_sections b) }
 {
-    let held = b.held;
-    let mut i = 0;
-    while i < held {
+    for i in 0..b.held {
         let s = b.sections[i];
         let position = s.position.0;
         let code = s.code;
         codes[i] = s.settlement;
         positions[i] = position;
         keys[i] = section_code::key(code);
-        i += 1;
     }
 }

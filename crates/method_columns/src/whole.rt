@@ -8,6 +8,7 @@ use rules::book::Book;
 use rules::limits::{NOTICE_PLACES, SECTION_PLACES};
 
 // Of the sections held participants, settlement codes, positions and the keys of their codes; of the notices filed sellers, elevators and lots.
+// An array for each column, and not one of structs: a step is lent the columns that it reads as slices, and none is copied (fixed memory, no heap).
 #[derive(Clone, Copy)]
 pub struct Columns {
     pub persons: [u32; SECTION_PLACES],

@@ -4,8 +4,6 @@ ghost use Rattle.rules.specs.declared.book.Section.{Section};
 ghost use Rattle.method_laws.specs.Columns.{settlements_of, AtMost, Below};
 ghost use Rattle.method_laws.specs.Giving.{taken_from};
 
-use value::lots::smaller;
-
 // What each section of an order gives; `given` holds what was given before (01, Expiry, 2.2; 01, Expiry, 3.3).
 pub fn give(
     codes: &[u8],
@@ -21,19 +19,16 @@ pub fn give(
     ensures given_after { (ss : List Section) → codes.now ≡ settlements_of ss → given.new ≡ taken_from ss order.now lots.now caps.old need given.old }
     ensures at_most_2 { AtMost given.new lots.now }
 {
-    let all = order.len();
     let mut left = need;
-    let mut k = 0;
-    while k < all {
-        let i = order[k];
+    for place in order {
+        let i = *place;
         let c = codes[i] as usize;
         let cap = caps[c];
         let own = lots[i];
-        let within = smaller(cap, left);
-        let amount = smaller(own, within);
+        let within = cap.min(left);
+        let amount = own.min(within);
         caps[c] = cap - amount;
         left -= amount;
         given[i] = amount;
-        k += 1;
     }
 }

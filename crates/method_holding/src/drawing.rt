@@ -7,7 +7,6 @@ ghost use Rattle.method_laws.specs.Columns.{positions_of, notice_lots_in, Below,
 ghost use Rattle.rules.specs.Expiry.Passes.{sellers_in};
 
 use rules::limits::SECTION_PLACES;
-use value::lots::smaller;
 
 // What a notice of a short section has of the section's first lots, after those filed before it.
 fn share(position: i64, own: u64, first: u64, before: u64) -> u64
@@ -16,10 +15,7 @@ fn share(position: i64, own: u64, first: u64, before: u64) -> u64
     if 0 <= position {
         return 0;
     }
-    if first < before {
-        return 0;
-    }
-    smaller(own, first - before)
+    own.min(first.saturating_sub(before))
 }
 
 // What each notice has of its section's first lots, in one walk over the notices (01, Expiry, 5.1; 01, Expiry, 6.5).
@@ -29,15 +25,12 @@ pub fn drawn(positions: &[i64], sellers: &[u8], lots: &[u64], first: &[u64], out
     ensures out_after { (ss : List Section) (ns : List Notice) → positions.now ≡ positions_of ss → sellers.now ≡ sellers_in ns → lots.now ≡ notice_lots_in ns → out.new ≡ Drawing.drawn ss ns first.now }
     ensures small { Small out.new }
 {
-    let filed = sellers.len();
     let mut before = [0; SECTION_PLACES];
-    let mut k = 0;
-    while k < filed {
-        let i = sellers[k] as usize;
+    for (k, seller) in sellers.iter().enumerate() {
+        let i = *seller as usize;
         let own = lots[k];
         let used = before[i];
         out[k] = share(positions[i], own, first[i], used);
         before[i] = used + own;
-        k += 1;
     }
 }

@@ -5,8 +5,6 @@ ghost use Rattle.rules.specs.declared.book.Section.{Section};
 ghost use Rattle.rules.specs.Expiry;
 ghost use Rattle.method_laws.specs.Columns.{settlements_of, positions_of, Below, NetsSmall, Small};
 
-use value::signed;
-
 // Lots with the sign of a position.
 fn on_side_of(position: i64, own: u64) -> i64
     requires { own ≤ 1_000_000 }
@@ -14,7 +12,7 @@ fn on_side_of(position: i64, own: u64) -> i64
 {
     let lots = own as i64;
     if position < 0 {
-        return signed::difference(0, lots);
+        return -lots;
     }
     lots
 }
@@ -26,14 +24,10 @@ pub fn nets(codes: &[u8], positions: &[i64], lots: &[u64], out: &mut [i64])
     ensures out_after { (ss : List Section) → codes.now ≡ settlements_of ss → positions.now ≡ positions_of ss → out.new ≡ listed 64 (Expiry.net_of_code ss lots.now) }
     ensures out_len { (length out.new ≡ 64) × NetsSmall out.new }
 {
-    let held = lots.len();
-    let mut i = 0;
-    while i < held {
+    for i in 0..lots.len() {
         let c = codes[i] as usize;
         let position = positions[i];
-        let own = lots[i];
         let net = out[c];
-        out[c] = signed::sum(net, on_side_of(position, own));
-        i += 1;
+        out[c] = net + on_side_of(position, lots[i]);
     }
 }

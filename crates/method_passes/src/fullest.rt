@@ -1,4 +1,5 @@
-// The place of most lots, among equal ones by the paper's keys. `keys` tell which of two section codes is lower.
+// The place of most lots, among equal ones by the paper's keys. `keys` tell which of two section codes is lower. Each walk reads columns of its own, so that one walk with
+// closures for what is read would be no shorter than these; what they share is `leader`.
 ghost use Rattle.std.specs.Prelude.{◌≡◌, cond, ◌&&◌, ◌||◌, ltb, eqb, length};
 ghost use Rattle.rules.specs.Expiry.Passes;
 ghost use Rattle.method_laws.specs.Columns.{by_key};
@@ -22,17 +23,13 @@ pub fn buyer(keys: &[u64], lots: &[u64]) -> usize
     requires { length keys.now ≡ length lots.now }
     ensures { result ≡ Passes.fullest_buyer (by_key keys.now) lots.now }
 {
-    let all = lots.len();
     let mut best = 0;
-    let mut i = 0;
-    while i < all {
-        let own = lots[i];
+    for (i, own) in lots.iter().enumerate() {
         let most = lots[best];
         let mine = keys[i];
         let its = keys[best];
         let earlier = mine < its;
-        best = leader(i, own, best, most, earlier);
-        i += 1;
+        best = leader(i, *own, best, most, earlier);
     }
     best
 }
@@ -41,15 +38,11 @@ pub fn buyer(keys: &[u64], lots: &[u64]) -> usize
 pub fn elevator(lots: &[u64]) -> usize
     ensures { result ≡ Passes.fullest_elevator lots.now }
 {
-    let all = lots.len();
     let mut best = 0;
-    let mut i = 0;
-    while i < all {
-        let own = lots[i];
+    for (i, own) in lots.iter().enumerate() {
         let most = lots[best];
         let earlier = i < best;
-        best = leader(i, own, best, most, earlier);
-        i += 1;
+        best = leader(i, *own, best, most, earlier);
     }
     best
 }
@@ -67,8 +60,7 @@ pub fn pair(keys: &[u64], ps: Pairs) -> usize
     ensures { result ≡ Passes.fullest_pair (by_key keys.now) (pairs_in ps) }
 {
     let mut best = 0;
-    let mut i = 0;
-    while i < ps.count {
+    for i in 0..ps.count {
         let own = ps.lots[i];
         let most = ps.lots[best];
         let buyer = ps.buyers[i];
@@ -79,7 +71,6 @@ pub fn pair(keys: &[u64], ps: Pairs) -> usize
         let elsewhere = ps.elevators[best];
         let earlier = earlier_pair(mine, its, buyer == other, stands, elsewhere);
         best = leader(i, own, best, most, earlier);
-        i += 1;
     }
     best
 }
@@ -89,10 +80,8 @@ pub fn notice(keys: &[u64], sellers: &[u8], stands: &[u8], drawn: &[u64], elevat
     requires { Sold sellers.now stands.now drawn.now (length keys.now) }
     ensures { result ≡ Passes.fullest_notice (by_key keys.now) sellers.now stands.now drawn.now elevator }
 {
-    let all = stands.len();
     let mut best = 0;
-    let mut i = 0;
-    while i < all {
+    for i in 0..stands.len() {
         let own = offers::offer(stands, drawn, elevator, i);
         let most = offers::offer(stands, drawn, elevator, best);
         let seller = sellers[i] as usize;
@@ -101,7 +90,6 @@ pub fn notice(keys: &[u64], sellers: &[u8], stands: &[u8], drawn: &[u64], elevat
         let its = keys[other];
         let lower = mine < its;
         best = leader(i, own, best, most, lower);
-        i += 1;
     }
     best
 }

@@ -20,13 +20,7 @@ pub fn elevator_lots(stands: &[u8], drawn: &[u64], out: &mut [u64])
     requires { Drawn stands.now drawn.now × (out.old ≡ replicate 32 0) }
     ensures { out.new ≡ Passes.elevator_lots stands.now drawn.now }
 {
-    let all = stands.len();
-    let mut k = 0;
-    while k < all {
-        let e = stands[k] as usize;
-        let own = drawn[k];
-        let stands_there = out[e];
-        out[e] = stands_there + own;
-        k += 1;
+    for (k, stand) in stands.iter().enumerate() {
+        out[*stand as usize] += drawn[k];
     }
 }

@@ -1,4 +1,4 @@
-// The pairs of a pass, from the first one formed.
+// The pairs of a pass, from the first one formed: columns of fixed length, as there is no heap.
 ghost use Rattle.std.specs.Prelude.{◌≡◌, ◌≤◌, ◌<◌, [], ◌∷◌, ◌++◌};
 ghost use Rattle.method_passes.specs.Formed.{pairs_in, pair_left};
 
@@ -24,26 +24,24 @@ pub fn none() -> Pairs
     }
 }
 
-// One pair more.
-pub fn with_pair(ps: Pairs, buyer: u8, elevator: u8, lots: u64) -> Pairs
-    requires { ps.count < 160 }
-    ensures { pairs_in result ≡ pairs_in ps ++ (record { buyer = buyer; elevator = elevator; lots = lots } ∷ []) }
-{
-    let at = ps.count;
-    let mut next = ps;
-    next.buyers[at] = buyer;
-    next.elevators[at] = elevator;
-    next.lots[at] = lots;
-    next.count = at + 1;
-    next
-}
+impl Pairs {
+    // One pair more.
+    pub fn push(&mut self, buyer: u8, elevator: u8, lots: u64)
+        requires { self.old.count < 160 }
+        ensures { pairs_in self.new ≡ pairs_in self.old ++ (record { buyer = buyer; elevator = elevator; lots = lots } ∷ []) }
+    {
+        let at = self.count;
+        self.buyers[at] = buyer;
+        self.elevators[at] = elevator;
+        self.lots[at] = lots;
+        self.count = at + 1;
+    }
 
-// Pair p with so many lots left.
-pub fn with_left(ps: Pairs, p: usize, left: u64) -> Pairs
-    requires { (p < ps.count) × (ps.count ≤ 160) }
-    ensures { pairs_in result ≡ pair_left (pairs_in ps) p left }
-{
-    let mut next = ps;
-    next.lots[p] = left;
-    next
+    // Pair p with so many lots left.
+    pub fn leave(&mut self, p: usize, left: u64)
+        requires { (p < self.old.count) × (self.old.count ≤ 160) }
+        ensures { pairs_in self.new ≡ pair_left (pairs_in self.old) p left }
+    {
+        self.lots[p] = left;
+    }
 }

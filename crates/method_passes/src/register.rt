@@ -1,4 +1,4 @@
-// The lines of an expiry, from the first one formed.
+// The lines of an expiry, from the first one formed: columns, as the lists that they are written to (01, Expiry call, 1); of fixed length, as there is no heap.
 ghost use Rattle.std.specs.Prelude.{◌≡◌, ◌<◌, [], ◌∷◌, ◌++◌};
 ghost use Rattle.method_passes.specs.Formed.{lines_in};
 
@@ -26,17 +26,17 @@ pub fn none() -> Register
     }
 }
 
-// One line more.
-pub fn with_line(g: Register, buyer: u8, elevator: u8, seller: u8, lots: u32) -> Register
-    requires { g.count < 382 }
-    ensures { lines_in result ≡ lines_in g ++ (record { buyer = buyer; elevator = elevator; seller = seller; lots = lots } ∷ []) }
-{
-    let at = g.count;
-    let mut next = g;
-    next.buyers[at] = buyer;
-    next.elevators[at] = elevator;
-    next.sellers[at] = seller;
-    next.lots[at] = lots;
-    next.count = at + 1;
-    next
+impl Register {
+    // One line more.
+    pub fn push(&mut self, buyer: u8, elevator: u8, seller: u8, lots: u32)
+        requires { self.old.count < 382 }
+        ensures { lines_in self.new ≡ lines_in self.old ++ (record { buyer = buyer; elevator = elevator; seller = seller; lots = lots } ∷ []) }
+    {
+        let at = self.count;
+        self.buyers[at] = buyer;
+        self.elevators[at] = elevator;
+        self.sellers[at] = seller;
+        self.lots[at] = lots;
+        self.count = at + 1;
+    }
 }

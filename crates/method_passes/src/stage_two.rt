@@ -5,8 +5,7 @@ ghost use Rattle.method_passes.specs.Formed.{pairs_in, lines_in, next_choice, li
 
 use crate::pairs::Pairs;
 use crate::register::Register;
-use crate::{fullest, offers, pairs, register};
-use value::lots;
+use crate::{fullest, offers};
 
 // Which pair, which notice, and how much.
 #[derive(Clone, Copy)]
@@ -16,7 +15,7 @@ struct Choice {
     lots: u64,
 }
 
-// The next line, with no lots where none is left to form (01, Expiry, 6.3).
+// The next line (01, Expiry, 6.3). Where none is left to form it has no lots and no `None`: so the definition `next_choice`, which the contract names, answers it.
 fn choose(keys: &[u64], ps: Pairs, sellers: &[u8], stands: &[u8], drawn: &[u64]) -> Choice
     requires known { Known (pairs_in ps) (length keys.now) × (0 < ps.count) }
     requires sold { Sold sellers.now stands.now drawn.now (length keys.now) × (0 < length stands.now) }
@@ -27,12 +26,8 @@ fn choose(keys: &[u64], ps: Pairs, sellers: &[u8], stands: &[u8], drawn: &[u64])
     let notice = fullest::notice(keys, sellers, stands, drawn, elevator);
     let has = ps.lots[pair];
     let offered = offers::offer(stands, drawn, elevator, notice);
-    let lots = lots::smaller(has, offered);
-    Choice {
-        pair: pair,
-        notice: notice,
-        lots: lots,
-    }
+    let lots = has.min(offered);
+    Choice { pair, notice, lots }
 }
 
 // The lines that pairs and what is drawn of the notices form, after those that the register has (01, Expiry, 6.3).
@@ -56,8 +51,7 @@ pub fn form_lines(
     let turns = count + filed;
     let mut ps = formed;
     let mut g = before;
-    let mut turn = 0;
-    while turn < turns {
+    for turn in 0..turns {
         let next = choose(keys, ps, sellers, stands, drawn);
         let lots = next.lots;
         if lots == 0 {
@@ -69,11 +63,10 @@ pub fn form_lines(
         let elevator = ps.elevators[p];
         let has = ps.lots[p];
         let seller = sellers[k];
-        g = register::with_line(g, buyer, elevator, seller, lots as u32);
-        ps = pairs::with_left(ps, p, has - lots);
+        g.push(buyer, elevator, seller, lots as u32);
+        ps.leave(p, has - lots);
         let left = drawn[k];
         drawn[k] = left - lots;
-        turn += 1;
     }
     g
 }

@@ -9,6 +9,9 @@ use Rattle.rules.specs.Expiry.Failing.{failing}
 use Rattle.method_laws.specs.Columns.{participants_of}
 use Rattle.method_columns.specs.Failing.{failing_with}
 use Rattle.method_delivery.specs.Lent.{ColumnsOf}
+use Rattle.method_steps.specs.declared.columns.SectionColumns.{SectionColumns}
+use Rattle.method_register.specs.declared.columns.NoticeColumns.{NoticeColumns}
+use Rattle.method_patterns.specs.declared.marks.Marked.{Marked}
 
 -- the last digit of a number in base two says whether a section named is met
 abbrev pub met_in : ℕ → Bool
@@ -50,3 +53,17 @@ pub record Named (persons codes : List ℕ) (positions : List ℤ) (keys selling
   pub book : Book
   pub is : Stands book persons codes positions keys selling stands stock failed
   pub marks : Marks book failed own still named
+
+-- the same of columns and marks that are lent together
+abbrev pub StandsBy : Book → List ℕ → SectionColumns → NoticeColumns → List ℕ → Type 0
+StandsBy b persons columns notices failed = Stands b persons columns.codes.now columns.positions.now columns.keys.now notices.sellers.now notices.stands.now notices.lots.now failed
+
+abbrev pub StandingBy : List ℕ → SectionColumns → NoticeColumns → List ℕ → Type 0
+StandingBy persons columns notices failed = Standing persons columns.codes.now columns.positions.now columns.keys.now notices.sellers.now notices.stands.now notices.lots.now failed
+
+abbrev pub MarksBy : Book → Marked → Type 0
+MarksBy b marked = Marks b marked.fails.now marked.own.now marked.still.now marked.named.now
+
+abbrev pub NamedBy : List ℕ → SectionColumns → NoticeColumns → Marked → Type 0
+NamedBy persons columns notices marked =
+    Named persons columns.codes.now columns.positions.now columns.keys.now notices.sellers.now notices.stands.now notices.lots.now marked.fails.now marked.own.now marked.still.now marked.named.now

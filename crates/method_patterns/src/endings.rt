@@ -2,19 +2,13 @@
 ghost use Rattle.std.specs.Prelude.{◌≡◌, ◌+◌, ◌≤◌, cond};
 ghost use Rattle.method_patterns.specs.Endings.{all_of, some_of, none_of};
 
-// In how many patterns a section is delivered in full, in part, not at all.
-#[derive(Clone, Copy)]
-pub struct Counts {
-    pub full: u32,
-    pub part: u32,
-    pub none: u32,
-}
+use rules::book::Failures;
 
 // None yet.
-pub fn no_patterns() -> Counts
+pub fn no_patterns() -> Failures
     ensures { result ≡ record { full = 0; part = 0; none = 0 } }
 {
-    Counts {
+    Failures {
         full: 0,
         part: 0,
         none: 0,
@@ -22,7 +16,7 @@ pub fn no_patterns() -> Counts
 }
 
 // One pattern more, in which so many of a section's own lots are delivered (02, n, 2 and 3).
-pub fn with_ending(c: Counts, own: u64, lots: u64) -> Counts
+pub fn with_ending(c: Failures, own: u64, lots: u64) -> Failures
     requires { (c.full ≤ 1_024) × (c.part ≤ 1_024) × (c.none ≤ 1_024) }
     ensures { result ≡ record { full = c.full + cond (all_of own lots) 1 0; part = c.part + cond (some_of own lots) 1 0; none = c.none + cond (none_of own lots) 1 0 } }
 {

@@ -8,6 +8,8 @@ use Rattle.rules.specs.Expiry.Passes.{Pair, Line, Pass, sellers_in}
 use Rattle.rules.specs.Expiry.Call.{remaining, lines}
 use Rattle.method_laws.specs.Columns.{Columns, Filed, positions_of, notice_lots_in, by_key}
 use Rattle.method_steps.specs.Held.{Held}
+use Rattle.method_steps.specs.declared.columns.SectionColumns.{SectionColumns}
+use Rattle.method_register.specs.declared.columns.NoticeColumns.{NoticeColumns}
 use Rattle.method_passes.specs.Formed.{pass_pairs, pass_lines, Sold}
 
 -- the lots of the long sections, those of a settlement code's sections, and what is drawn of the notices of these (01, Expiry, 6.1)
@@ -77,3 +79,16 @@ pub record Parted (codes : List ℕ) (positions : List ℤ) (keys kept near far 
   pub far_is : (ss : List Section) → Columns ss codes positions keys → far ≡ outside ss kept
   pub near_is : near ≡ less kept far
   pub far_long : length far ≡ length kept
+
+-- the same of columns that are lent together
+abbrev pub ReadBy : SectionColumns → List ℕ → NoticeColumns → Type 0
+ReadBy columns buyers drawn = Read columns.codes.now columns.keys.now buyers drawn.sellers.now drawn.stands.now drawn.lots.now
+
+abbrev pub DeliversBy : List Section → List Notice → SectionColumns → NoticeColumns → List ℕ → Type 0
+DeliversBy ss ns columns notices kept = Delivers ss ns columns.codes.now columns.positions.now columns.keys.now notices.sellers.now notices.stands.now notices.lots.now kept
+
+abbrev pub ExpiringBy : SectionColumns → NoticeColumns → List ℕ → Type 0
+ExpiringBy columns notices kept = Expiring columns.codes.now columns.positions.now columns.keys.now notices.sellers.now notices.stands.now notices.lots.now kept
+
+abbrev pub PartedBy : SectionColumns → (kept near far : List ℕ) → Type 0
+PartedBy columns kept near far = Parted columns.codes.now columns.positions.now columns.keys.now kept near far

@@ -2,5 +2,6 @@
 #![tactic(auto)]
 
 pub mod chosen;
+pub mod columns;
 pub mod lots;
 pub mod passes;

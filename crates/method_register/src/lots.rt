@@ -3,46 +3,26 @@ ghost use Rattle.std.specs.Prelude.{ℕ, List, ◌≡◌, ◌≤◌, length, rep
 ghost use Rattle.rules.specs.Words.{entry, less};
 ghost use Rattle.rules.specs.declared.book.{Section.Section, Notice.Notice};
 ghost use Rattle.rules.specs.Expiry.Drawing.{drawn};
-ghost use Rattle.method_steps.specs.Held.{Held};
-ghost use Rattle.method_register.specs.Passes.{Parted, Noticed, Drawing};
+ghost use Rattle.method_steps.specs.Held.{Lent};
+ghost use Rattle.method_register.specs.Passes.{PartedBy, Noticed, Drawing};
 
 use method_giving::lists;
 use method_holding::drawing;
+use method_steps::columns::SectionColumns;
 use method_steps::outside;
 
-// What stays inside of the lots kept: the rest (01, Expiry, 4.2).
-fn stay(kept: &[u64], far: &[u64], near: &mut [u64])
-    requires { (length far.now ≡ length kept.now) × (length near.old ≡ length kept.now) × ((i : ℕ) → entry far.now i ≤ entry kept.now i) }
-    ensures { near.new ≡ less kept.now far.now }
-{
-    let held = kept.len();
-    let mut i = 0;
-    while i < held {
-        let own = kept[i];
-        let gone = far[i];
-        near[i] = own - gone;
-        i += 1;
-    }
-}
-
 // What of the lots kept stays inside, and what goes outside; `far` is noughts at first (01, Expiry, 4.1; 01, Expiry, 4.2).
-pub fn split(
-    codes: &[u8],
-    positions: &[i64],
-    keys: &[u64],
-    kept: &[u64],
-    near: &mut [u64],
-    far: &mut [u64],
-)
-    requires held { Held codes.now positions.now keys.now (length kept.now) × ((i : ℕ) → entry kept.now i ≤ 1_000_000) }
+pub fn split(columns: SectionColumns<'_>, kept: &[u64], near: &mut [u64], far: &mut [u64])
+    requires held { Lent columns (length kept.now) × ((i : ℕ) → entry kept.now i ≤ 1_000_000) }
     requires near_len { (length near.old ≡ length kept.now) × (far.old ≡ replicate (length kept.now) 0) }
-    ensures { Parted codes.now positions.now keys.now kept.now near.new far.new }
+    ensures { PartedBy columns.entry kept.now near.new far.new }
 {
-    outside::outside(codes, positions, keys, kept, far);
-    stay(kept, far, near);
+    outside::outside(columns, kept, far);
+    near.copy_from_slice(kept);
+    lists::less(near, far);
 }
 
-// What is drawn of the notices inside, and beyond that outside (01, Expiry, 5.1).
+// What is drawn of the notices inside, and beyond that outside (01, Expiry, 5.1). Two lists and no NoticeColumns: elevators have no say in it, and `method_account` has none here.
 pub fn draw(
     positions: &[i64],
     sellers: &[u8],

@@ -18,7 +18,7 @@ fn same_person(participants: &[u32], buyer: u8, seller: u8) -> bool
     participants[buyer as usize] == participants[seller as usize]
 }
 
-// The place of the next line: the same one where the line there is taken out (02, a, 3).
+// The place of the next line: the same one where the line there is taken out (02, a, 3). It answers a place and no Option, so that the walk has no branch.
 fn next_place(at: usize, same: bool) -> usize
     requires { at < 382 }
     ensures { result ≡ cond same at (at + 1) }
@@ -35,11 +35,9 @@ pub fn kept_lines(participants: &[u32], g: Register) -> Register
     requires { Known participants.now g }
     ensures { lines_in result ≡ kept_by participants.now (lines_in g) }
 {
-    let count = g.count;
     let mut kept = g;
     kept.count = 0;
-    let mut k = 0;
-    while k < count {
+    for k in 0..g.count {
         let buyer = g.buyers[k];
         let elevator = g.elevators[k];
         let seller = g.sellers[k];
@@ -51,7 +49,6 @@ pub fn kept_lines(participants: &[u32], g: Register) -> Register
         kept.sellers[at] = seller;
         kept.lots[at] = lots;
         kept.count = next_place(at, same);
-        k += 1;
     }
     kept
 }
@@ -72,15 +69,12 @@ fn removed_lots(participants: &[u32], g: Register, gone: &mut [u64])
     requires { Known participants.now g × (length gone.old ≡ g.count) }
     ensures { gone.new ≡ removed_by participants.now g }
 {
-    let count = g.count;
-    let mut k = 0;
-    while k < count {
+    for k in 0..g.count {
         let buyer = g.buyers[k];
         let seller = g.sellers[k];
         let lots = g.lots[k] as u64;
         let same = same_person(participants, buyer, seller);
         gone[k] = removed(same, lots);
-        k += 1;
     }
 }
 

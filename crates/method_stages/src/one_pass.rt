@@ -5,7 +5,6 @@ ghost use Rattle.method_laws.specs.Columns.{by_key};
 ghost use Rattle.method_passes.specs.Formed.{pairs_in, lines_in, pairs_from, lines_from, pass_pairs, pass_lines, Known, Sold};
 
 use crate::Stages;
-use method_giving::lists;
 use method_passes::pairs::Pairs;
 use method_passes::register::Register;
 use method_passes::{offers, register, stage_one, stage_two};
@@ -18,7 +17,7 @@ fn pairs_of(keys: &[u64], buyers: &[u64], stocks: [u64; ELEVATORS]) -> Pairs
 {
     let held = buyers.len();
     let mut bought = [0; SECTION_PLACES];
-    lists::copy(buyers, &mut bought[..held]);
+    bought[..held].copy_from_slice(buyers);
     let mut left = stocks;
     stage_one::form_pairs(keys, &mut bought[..held], &mut left)
 }
@@ -31,7 +30,7 @@ fn lines_of(keys: &[u64], formed: Pairs, sellers: &[u8], stands: &[u8], drawn: &
 {
     let filed = drawn.len();
     let mut sold = [0; NOTICE_PLACES];
-    lists::copy(drawn, &mut sold[..filed]);
+    sold[..filed].copy_from_slice(drawn);
     let empty = register::none();
     stage_two::form_lines(keys, formed, sellers, stands, &mut sold[..filed], empty)
 }
@@ -50,8 +49,8 @@ pub fn stages(keys: &[u64], buyers: &[u64], sellers: &[u8], stands: &[u8], drawn
     let pairs = pairs_of(keys, buyers, stocks);
     let lines = lines_of(keys, pairs, sellers, stands, drawn);
     Stages {
-        stocks: stocks,
-        pairs: pairs,
-        lines: lines,
+        stocks,
+        pairs,
+        lines,
     }
 }

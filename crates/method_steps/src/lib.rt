@@ -2,6 +2,7 @@
 #![tactic(auto)]
 
 pub mod across;
+pub mod columns;
 pub mod in_codes;
 pub mod ordered;
 pub mod outside;

@@ -6,63 +6,56 @@ ghost use Rattle.rules.specs.Expiry.Across;
 ghost use Rattle.rules.specs.Expiry.Call;
 ghost use Rattle.rules.specs.Expiry.Codes;
 ghost use Rattle.rules.specs.Expiry.Failing;
-ghost use Rattle.method_laws.specs.Columns.{Columns, NetsSmall, Small};
-ghost use Rattle.method_steps.specs.Held.{Held};
+ghost use Rattle.method_laws.specs.Columns.{NetsSmall, Small};
+ghost use Rattle.method_steps.specs.Held.{Lent, Of};
 
+use crate::columns::SectionColumns;
 use crate::{across, in_codes};
 use method_giving::lists;
 use method_holding::nets;
 use rules::limits::{SECTION_PLACES, SETTLEMENT_CODES};
 
 // Step 2: what is left when the codes are closed, and D (01, Expiry, 2.2; 01, Expiry, 3.1).
-fn close_codes(codes: &[u8], positions: &[i64], keys: &[u64], gaps: &[i64], kept: &mut [u64]) -> i64
-    requires held { Held codes.now positions.now keys.now (length kept.old) × (length gaps.now ≡ 64) }
+fn close_codes(columns: SectionColumns<'_>, gaps: &[i64], kept: &mut [u64]) -> i64
+    requires held { Lent columns (length kept.old) × (length gaps.now ≡ 64) }
     requires nets_small { NetsSmall gaps.now × Small kept.old }
-    ensures kept_after { (ss : List Section) → Columns ss codes.now positions.now keys.now → kept.new ≡ less kept.old (Codes.given_in_codes ss gaps.now kept.old) }
-    ensures value { (ss : List Section) → Columns ss codes.now positions.now keys.now → result ≡ Across.d_overall ss gaps.now (Codes.given_in_codes ss gaps.now kept.old) }
+    ensures kept_after { (ss : List Section) → Of ss columns.entry → kept.new ≡ less kept.old (Codes.given_in_codes ss gaps.now kept.old) }
+    ensures value { (ss : List Section) → Of ss columns.entry → result ≡ Across.d_overall ss gaps.now (Codes.given_in_codes ss gaps.now kept.old) }
     ensures small { Small kept.new }
 {
     let held = kept.len();
     let mut given = [0; SECTION_PLACES];
     let mut net = [0; SETTLEMENT_CODES];
-    in_codes::give(
-        codes,
-        positions,
-        keys,
-        gaps,
-        false,
-        kept,
-        &mut given[..held],
-    );
-    nets::nets(codes, positions, &given[..held], &mut net);
+    in_codes::give(columns, gaps, false, kept, &mut given[..held]);
+    nets::nets(columns.codes, columns.positions, &given[..held], &mut net);
     lists::less(kept, &given[..held]);
     across::left_open(gaps, &net)
 }
 
 // Step 3: what is left when d is closed (01, Expiry, 3.3).
-fn close_across(codes: &[u8], positions: &[i64], keys: &[u64], d: i64, kept: &mut [u64])
-    requires { Held codes.now positions.now keys.now (length kept.old) × Small kept.old }
-    ensures kept_after { (ss : List Section) → Columns ss codes.now positions.now keys.now → kept.new ≡ less kept.old (Across.given_across ss d kept.old) }
+fn close_across(columns: SectionColumns<'_>, d: i64, kept: &mut [u64])
+    requires { Lent columns (length kept.old) × Small kept.old }
+    ensures kept_after { (ss : List Section) → Of ss columns.entry → kept.new ≡ less kept.old (Across.given_across ss d kept.old) }
     ensures small { Small kept.new }
 {
     let held = kept.len();
     let mut more = [0; SECTION_PLACES];
-    across::give_across(codes, positions, keys, d, kept, &mut more[..held]);
+    across::give_across(columns, d, kept, &mut more[..held]);
     lists::less(kept, &more[..held]);
 }
 
 // What the method leaves each section, given what the failing sections have (01, Expiry, 1.2).
-pub fn remaining(codes: &[u8], positions: &[i64], keys: &[u64], failed: &[u64], kept: &mut [u64])
-    requires { Held codes.now positions.now keys.now (length kept.old) × (length failed.now ≡ length kept.old) × Small failed.now }
-    ensures kept_after { (ss : List Section) (ns : List Notice) → Columns ss codes.now positions.now keys.now → failed.now ≡ Failing.failing ss ns → kept.new ≡ Call.remaining ss ns }
+pub fn remaining(columns: SectionColumns<'_>, failed: &[u64], kept: &mut [u64])
+    requires { Lent columns (length kept.old) × (length failed.now ≡ length kept.old) × Small failed.now }
+    ensures kept_after { (ss : List Section) (ns : List Notice) → Of ss columns.entry → failed.now ≡ Failing.failing ss ns → kept.new ≡ Call.remaining ss ns }
     ensures small { Small kept.new }
 {
     let mut gaps = [0; SETTLEMENT_CODES];
-    nets::nets(codes, positions, failed, &mut gaps);
-    lists::magnitudes(positions, kept);
+    nets::nets(columns.codes, columns.positions, failed, &mut gaps);
+    lists::magnitudes(columns.positions, kept);
     lists::less(kept, failed);
-    let d = close_codes(codes, positions, keys, &gaps, kept);
-    close_across(codes, positions, keys, d, kept);
+    let d = close_codes(columns, &gaps, kept);
+    close_across(columns, d, kept);
 }
 
 // What each section has terminated: the rest of its position beside what it keeps (01, Expiry, 1.2).

@@ -19,7 +19,7 @@ pub fn read_some<R: Read>(input: &mut R, buffer: &mut [u8]) -> io::Result<usize>
     input.read(buffer)
 }
 
-// Reads the input until it ends or the buffer is full.
+// Reads the input until it ends or the buffer is full. It is no `read_to_end`, which needs a heap; each turn reads as much as there is, so it is no count.
 pub fn read_input<R: Read>(input: &mut R, buffer: &mut [u8]) -> io::Result<usize>
     ensures { IfOk result (λ count. IsPrefixLen count buffer.new) }
 {
@@ -46,7 +46,7 @@ pub fn word_count<E: Env>(env: &E, most: usize) -> usize
     most
 }
 
-// Puts a word that the program was given at the start of a buffer: how long it is, 0 where there is none or it is longer than the buffer.
+// Puts a word that the program was given at the start of a buffer: how long it is, 0 where there is none or it is longer than the buffer: either means no section, as an empty word does.
 pub fn word<E: Env>(env: &E, i: usize, buffer: &mut [u8]) -> usize
     ensures { IsPrefixLen result buffer.new }
 {

@@ -1,6 +1,7 @@
 -- Demand 3 of a file: the law over its calls, read off what the file's read hands out.
 use Rattle.numbers.proofs.Words.{ℕ, ◌+◌, arith, ◌≡◌, refl, sym, ap, subst, ◌∙◌, Bool, true, false, true≢false, not, List, [], ◌∷◌, ◌++◌, map, flat_map, length, length-append, eqb, eqb-true, not-false, pos, ◌+ℤ◌, ◌-ℤ◌, some, Every}
-use Rattle.rules.specs.declared.book.{Book.Book, FileAnswer.FileAnswer}
+use Rattle.rules.specs.Answers.{FileAnswer}
+use Rattle.rules.specs.declared.book.{Book.Book}
 use Rattle.numbers.proofs.Tests.{or_left, or_right}
 use Rattle.numbers.proofs.Lists.{empty}
 use Rattle.numbers.proofs.Sums.{wholes}

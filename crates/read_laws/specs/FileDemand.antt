@@ -1,7 +1,7 @@
 -- Demand 3 of what an accepted read hands out.
 use Rattle.std.specs.Prelude.{ℕ, ◌<◌, ◌≡◌, List, pos, ◌-ℤ◌}
 use Rattle.rules.specs.Words.{listed, entry_ℤ, total_ℤ}
-use Rattle.rules.specs.declared.book.{FileAnswer.FileAnswer}
+use Rattle.rules.specs.Answers.{FileAnswer}
 use Rattle.rules.specs.Units.{worth}
 use Rattle.rules.specs.Book.{held_sections, filed_notices}
 use Rattle.rules.specs.Expiry.Call.{lines}

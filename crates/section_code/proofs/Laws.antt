@@ -1,5 +1,6 @@
 -- A section code and its number.
-use Rattle.numbers.proofs.Words.{ℕ, ◌+◌, ◌*◌, ◌≤◌, ◌<◌, arith, ◌≡◌, sym, subst⁻¹, ◌∙◌, ⊎_elim, true, List, leb, ltb, eqb, length, get_or, leb-true, eqb-true, between, every, same, before, big_endian, entry}
+use Rattle.numbers.proofs.Words.{ℕ, ◌+◌, ◌*◌, ◌≤◌, ◌<◌, arith, ◌≡◌, refl, sym, ap, subst⁻¹, ◌∙◌, ⊎_elim, Bool, true, ◌&&◌, List, [], ◌∷◌, leb, ltb, eqb, length, get_or, leb-true, eqb-true, between, every, same, before, big_endian, entry}
+use lib.Pointwise.{pointwise}
 use Rattle.numbers.proofs.Cells.{cells}
 use Rattle.numbers.proofs.Keys.{big_same, big_before}
 use Rattle.numbers.proofs.Lists.{every_at}
@@ -32,6 +33,14 @@ module _ (code : List ℕ) (good : section_code_good code ≡ true) where
       ⊎_elim (λ (h : i < length code). allowed (get_or code i 0) (every_at byte_good code i 0 parts.1 h))
       (λ (h : length code ≤ i). omega (arith, get_d_past code i 0 h))
       (below_or_not i (length code))
+
+-- what the library's `==` of two lists compares, entry by entry, is their sameness
+pub pairwise_same : (xs ys : List ℕ) → pointwise eqb xs ys ≡ same xs ys
+unfolding same
+pairwise_same [] [] = refl
+pairwise_same [] (y ∷ ys) = refl
+pairwise_same (x ∷ xs) [] = refl
+pairwise_same (x ∷ xs) (y ∷ ys) = ap (λ (t : Bool). eqb x y && t) (pairwise_same xs ys)
 
 -- two good codes are the same where their numbers are equal, and one stands before the other where its number is lower
 module _ (c d : List ℕ) (good : section_code_good c ≡ true) (good' : section_code_good d ≡ true) where

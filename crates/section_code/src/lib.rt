@@ -11,28 +11,17 @@ ghost use Rattle.rules.specs.Book.{byte_good, section_code_good};
 fn byte_good(byte: u8) -> bool
     ensures { result ≡ byte_good byte }
 {
-    if byte < 48 {
-        return false;
-    }
-    if byte <= 57 {
-        return true;
-    }
-    if byte < 65 {
-        return false;
-    }
-    byte <= 90
+    matches!(byte, b'0'..=b'9' | b'A'..=b'Z')
 }
 
 // Whether a section code has seven bytes, as its type says, and each of them is allowed (01, Book, 3).
 pub fn code_good(code: [u8; 7]) -> bool
     ensures { result ≡ section_code_good code }
 {
-    let mut i = 0;
-    while i < 7 {
-        if !byte_good(code[i]) {
+    for byte in code {
+        if !byte_good(byte) {
             return false;
         }
-        i += 1;
     }
     true
 }
@@ -42,8 +31,7 @@ fn joined(a: u8, b: u8, c: u8, d: u8, e: u8, f: u8, g: u8) -> u64
     ensures value { result ≡ ((((((a * 256 + b) * 256 + c) * 256 + d) * 256 + e) * 256 + f) * 256 + g) }
     ensures upper_bound { result < 72_057_594_037_927_936 }
 {
-    let four = (((a as u64) * 256 + (b as u64)) * 256 + (c as u64)) * 256 + (d as u64);
-    ((four * 256 + (e as u64)) * 256 + (f as u64)) * 256 + (g as u64)
+    u64::from_be_bytes([0, a, b, c, d, e, f, g])
 }
 
 // The number of a section code; it is below 256^7 (01, Forms, 7).
@@ -60,12 +48,5 @@ pub fn key(code: [u8; 7]) -> u64
 pub fn same_code(a: [u8; 7], b: [u8; 7]) -> bool
     ensures { result ≡ same a b }
 {
-    let mut at = 0;
-    while at < 7 {
-        if a[at] != b[at] {
-            return false;
-        }
-        at += 1;
-    }
-    true
+    a == b
 }

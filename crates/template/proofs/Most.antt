@@ -1,23 +1,9 @@
 -- How much a template comes to at most.
-use Rattle.numbers.proofs.Words.{ℕ, zero, suc, ◌+◌, ◌*◌, ◌/◌, ◌%◌, ◌≤◌, ◌<◌, arith, Bool, true, false, List, [], ◌∷◌, cond, eqb, ⊎_elim, drop, length, length-append, entry}
-use Rattle.numbers.proofs.Tests.{below_or_not}
-use Rattle.numbers.specs.Text.{digits_from, decimal}
-use Rattle.listing.proofs.Laws.Digits.{digits_more, digits_last}
+use Rattle.numbers.proofs.Words.{ℕ, ◌*◌, ◌≤◌, arith, Bool, true, false, List, [], ◌∷◌, cond, eqb, drop, length, length-append, entry}
+use Rattle.numbers.specs.Text.{decimal}
+use Rattle.listing.proofs.Laws.Most.{decimal_few}
 use Rattle.listing.proofs.Laws.Rows.{texts_most}
 use Rattle.template.specs.Template.{escaped, visible, byte_text, first_code, code_text, sign_text, takes_number, piece_text, filled}
-
--- a number has at most 20 digits
-digits_long : (turns n : ℕ) (after : List ℕ) → length (digits_from turns n after) ≤ turns + length after
-unfolding digits_from
-digits_long zero n after = omega arith
-digits_long (suc turns) n after =
-    ⊎_elim (λ (l : n < 10). rw (digits_last turns n after l) (omega arith))
-    (λ (l : 10 ≤ n). rw (digits_more turns n after l) (omega (arith, digits_long turns (n / 10) ((48 + n % 10) ∷ after))))
-    (below_or_not n 10)
-
-pub decimal_long : (n : ℕ) → length (decimal n) ≤ 20
-unfolding decimal
-decimal_long n = omega (arith, digits_long 20 n [])
 
 -- of two texts, whichever it is
 one_long : (t : Bool) (a b : List ℕ) (m : ℕ) → length a ≤ m → length b ≤ m → length (cond t a b) ≤ m
@@ -37,7 +23,7 @@ code_long codes number = first_long (drop (7 * number) codes)
 
 piece_long : (c n : ℕ) (codes : List ℕ) → length (piece_text c n codes) ≤ 28
 piece_long c n codes =
-    one_long (eqb c 35) (decimal n) _ 28 (omega (arith, decimal_long n))
+    one_long (eqb c 35) (decimal n) _ 28 (omega (arith, decimal_few n))
     (one_long (eqb c 126) (sign_text n) _ 28 (one_long (eqb n 0) [] (45 ∷ []) 28 (omega arith) (omega arith))
     (one_long (eqb c 64) (code_text codes n) (c ∷ []) 28 (code_long codes n) (omega arith)))
 

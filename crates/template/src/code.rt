@@ -4,7 +4,6 @@ ghost use Rattle.io.specs.Digits.{hex_digit_ascii};
 ghost use Rattle.listing.specs.Laid.{Laid};
 ghost use Rattle.template.specs.Template.{visible, byte_text, first_code, code_text};
 
-use file_operand::bytes;
 use list_leaves::entries;
 
 const BACKSLASH: u8 = 92;
@@ -34,8 +33,9 @@ fn byte(b: u8, out: &mut [u8], at: usize) -> usize
         return at + 1;
     }
     let escape = [BACKSLASH, b'x', digit(b / 16), digit(b % 16)];
-    bytes::put(out, at, &escape);
-    at + 4
+    let next = at + 4;
+    out[at..next].copy_from_slice(&escape);
+    next
 }
 
 // The first of the section codes.
@@ -44,11 +44,9 @@ fn first(codes: &[u8], out: &mut [u8], at: usize) -> usize
     ensures { Laid out.old at (first_code codes.now) out.new result }
 {
     let mut next = at;
-    let mut i = 0;
-    while i < 7 {
-        let b = entries::nth_byte(codes, i);
+    for i in 0..7 {
+        let b = entries::nth(codes, i);
         next = byte(b, out, next);
-        i += 1;
     }
     next
 }
@@ -57,11 +55,7 @@ fn first(codes: &[u8], out: &mut [u8], at: usize) -> usize
 fn start(number: u64, end: usize) -> usize
     ensures { result ≡ min (7 * number) end }
 {
-    let last = end / 7;
-    if number <= last as u64 {
-        return 7 * number as usize;
-    }
-    end
+    number.saturating_mul(7).min(end as u64) as usize
 }
 
 // The code of the section of a number.

@@ -64,13 +64,10 @@ pub fn fill(template: &[u8], numbers: &[u64], codes: &[u8], out: &mut [u8], at: 
 {
     let mut next = at;
     let mut used = 0;
-    let mut i = 0;
-    while i < template.len() {
-        let c = template[i];
+    for &c in template {
         let n = entries::nth(numbers, used);
         next = piece(c, n, codes, out, next);
         used = used_after(c, used);
-        i += 1;
     }
     next
 }

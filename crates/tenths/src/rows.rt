@@ -13,10 +13,7 @@ use rules::dates::{Date, MONTHS, TENTHS_FROM, TENTHS_YEARS};
 fn number_end(i: usize) -> u8
     ensures { result ≡ number_end i }
 {
-    if i == MONTHS - 1 {
-        return LINE_END;
-    }
-    SPACE
+    if i == MONTHS - 1 { LINE_END } else { SPACE }
 }
 
 // Number i of a year's row, by the rule, and what comes after it (02, d, 3).
@@ -30,7 +27,7 @@ fn number(year: u32, i: usize, out: &mut [u8], at: usize) -> usize
         month,
         day: 10,
     });
-    text::number(weekday as u64, number_end(i), out, at)
+    text::number(u64::from(weekday), number_end(i), out, at)
 }
 
 // A year's row (02, d, 3).
@@ -39,10 +36,8 @@ fn year_row(year: u32, out: &mut [u8], at: usize) -> usize
     ensures { Laid out.old at (year_row year) out.new result }
 {
     let mut next = at;
-    let mut i = 0;
-    while i < MONTHS {
+    for i in 0..MONTHS {
         next = number(year, i, out, next);
-        i += 1;
     }
     next
 }
@@ -53,10 +48,8 @@ pub fn years(out: &mut [u8])
     ensures { out.new ≡ over (table_rows tenths) out.old }
 {
     let mut next = 0;
-    let mut i = 0;
-    while i < TENTHS_YEARS {
+    for i in 0..TENTHS_YEARS {
         let year = TENTHS_FROM + i as u32;
         next = year_row(year, out, next);
-        i += 1;
     }
 }

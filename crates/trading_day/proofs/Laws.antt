@@ -1,4 +1,2 @@
-pub mod Answer
 pub mod InTurn
-pub mod Passed
 pub mod Walk

@@ -1,40 +1,33 @@
-// The search for a trading day: one walk over the days, and one over the closed dates beside it.
-ghost use Rattle.std.specs.Prelude.{◌≡◌, ◌≤◌, ◌||◌, true, drop};
-ghost use Rattle.rules.specs.Words.{ascending};
+// The search for a trading day: a walk over the days.
+ghost use Rattle.std.specs.Prelude.{◌≡◌, ◌≤◌, ◌||◌, true};
 ghost use Rattle.rules.specs.Calendar;
-ghost use Rattle.rules.specs.LastTradingDay.{weekend, first_trading};
-ghost use Rattle.trading_day.specs.Walk.{starts_with};
+ghost use Rattle.rules.specs.LastTradingDay.{weekend, closed_on, first_trading};
 
 use crate::{closed, numbered};
 use calendar::dates;
 use rules::dates::{DAYS_SEARCHED, Date, SATURDAY, SUNDAY};
 
-// Whether a day is a Saturday, a Sunday or the closed date at a place (02, e, 2).
-fn shut(weekday: u8, closed: &[u32], at: usize, number: u64) -> bool
-    ensures { result ≡ (weekend weekday || starts_with number (drop at closed.now)) }
+// Whether a day is a Saturday, a Sunday or a closed date (02, e, 2).
+fn shut(weekday: u8, closed: &[u32], date: Date) -> bool
+    ensures { result ≡ (weekend weekday || closed_on closed.now date) }
 {
     let weekend = (weekday == SATURDAY) | (weekday == SUNDAY);
-    weekend | closed::stands_at(closed, at, number)
+    weekend | closed::among(closed, numbered::number_of(date))
 }
 
 // The first trading day from a date on (02, e, 2 and 4).
 pub fn first_trading(start: Date, closed: &[u32]) -> Date
-    requires { (Calendar.dated start ≡ true) × (start.year ≤ 2050) × (ascending closed.now ≡ true) }
+    requires { (Calendar.dated start ≡ true) × (start.year ≤ 2050) }
     ensures { result ≡ first_trading 91 closed.now start }
 {
     let mut date = start;
     let mut weekday = calendar::weekday(start);
-    let mut at = 0;
-    let mut days = 0;
-    while days < DAYS_SEARCHED {
-        let number = numbered::number_of(date);
-        at = closed::passed(closed, at, number);
-        if !shut(weekday, closed, at, number) {
+    for _ in 0..DAYS_SEARCHED {
+        if !shut(weekday, closed, date) {
             return date;
         }
         date = dates::next_day(date);
         weekday = dates::next_weekday(weekday);
-        days += 1;
     }
     date
 }

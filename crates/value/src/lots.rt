@@ -5,8 +5,5 @@ ghost use Rattle.std.specs.Prelude.{◌≡◌, min};
 pub fn smaller(x: u64, y: u64) -> u64
     ensures { result ≡ min x y }
 {
-    if x < y {
-        return x;
-    }
-    y
+    x.min(y)
 }

@@ -25,15 +25,11 @@ pub fn product(x: i64, y: i64) -> i64
     x * y
 }
 
-// The size of x. Below 0 it is one more than -1 - x, which always fits.
+// The size of x.
 pub fn size(x: i64) -> u64
     ensures { result ≡ nat_abs x }
 {
-    if x < 0 {
-        let beyond = -1 - x;
-        return (beyond as u64) + 1;
-    }
-    x as u64
+    x.unsigned_abs()
 }
 
 // Whether x lies within ±limit.

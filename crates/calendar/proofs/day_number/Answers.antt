@@ -13,8 +13,8 @@ pub overflow_add-result : goal.overflow_add-result
 overflow_add-result c = omega (arith, most c)
 
 pub overflow_add-result-2 : goal.overflow_add-result-2
-overflow_add-result-2 c = omega (arith, most c.before, c.less_one.ensures)
+overflow_add-result-2 c = omega (arith, most (goal.at.overflow_add-result-2 c).After-days_before_month-months, c.from.ensures, c.saturating_sub.ensures)
 
 pub returns : goal.returns
 unfolding day_number
-returns c = rw (c.days_before_year-years.ensures, c.days_before_month-months.ensures, c.less_one.ensures)
+returns c = rw (c.days_before_year-years.ensures, c.days_before_month-months.ensures, c.from.ensures, c.saturating_sub.ensures)

@@ -3,4 +3,4 @@ use Rattle.calendar_laws.proofs.Years.{years_counted, before_year}
 use Rattle.calendar.proofs.days_before_year.Goals as goal
 
 pub returns : goal.returns
-returns c = ap years_counted c.less_one-years.ensures ∙ sym (before_year c.args.year)
+returns c = ap years_counted (c.from-years.ensures ∙ c.saturating_sub.ensures) ∙ sym (before_year c.args.year)

@@ -10,7 +10,8 @@ use Rattle.rules.specs.Listing.{row_of, line_row, section_row, listing_bytes}
 use Rattle.rules.specs.Label.{row_fit, rows_of, register_even, sections_short, label_answer, cut_to}
 use Rattle.listing.specs.Limits.{Limits}
 use Rattle.listing.proofs.Laws.Rows.{texts_same}
-use Rattle.call_label.proofs.Laws.Label.{Long, rows_fit, row_test, label_accepted}
+use Rattle.call_label.proofs.Laws.Label.{Long, row_test, label_accepted}
+use Rattle.call_label.specs.Lengths.{rows_fit}
 
 -- register lists with room for so many lines
 pub record Room (n : ℕ) (ls : Lists) : Type 0 where
@@ -20,7 +21,7 @@ pub record Room (n : ℕ) (ls : Lists) : Type 0 where
   pub lots : n ≤ length ls.lots
 
 module _ (b : Book) (lent : Lent) (n : ℕ) (is : good b ≡ true) (room : Room n lent.lists) (enough : Long b.held lent)
-    (limits : Limits b n lent.lists.buyers lent.lists.elevators lent.lists.sellers lent.lists.lots lent.lists.delivered lent.lists.terminated lent.lists.lapsed lent.sums) where
+    (limits : Limits b n lent) where
   abbrev cut : Lent
   cut = cut_to n lent
 
@@ -46,7 +47,7 @@ module _ (b : Book) (lent : Lent) (n : ℕ) (is : good b ≡ true) (room : Room 
   unfolding sections_short
   long = simp (le-ltb _ _ enough.delivered, le-ltb _ _ enough.terminated, le-ltb _ _ enough.lapsed, le-ltb _ _ enough.sums)
 
-  fit : rows_fit b cut ≡ true
+  fit : rows_fit b.held cut.lists ≡ true
   fit =
       counted-every (λ (i : ℕ). row_fit b.held (line_of cut.lists i)) 0 (rows_of cut.lists)
       (λ i l h.

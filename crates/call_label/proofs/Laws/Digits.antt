@@ -33,29 +33,26 @@ digits_least (suc turns) (suc k) n after few h =
 
 -- what the loop keeps: the number passes the largest of so many digits
 pub record Passed (n more : ℕ) : Type 0 where
-  pub place : more < 20
+  pub place : more ≤ 20
   pub passed : 10 ^ more ≤ max n 1
 
 pub passed_none : (n : ℕ) → Passed n 0
 passed_none n = record { place = omega arith; passed = omega arith }
 
 module _ {n more : ℕ} (p : Passed n more) (fits : n < 18_446_744_073_709_551_616) where
-  module _ (larger : largest_of more < n) where
-    next : 10 ^ suc more ≤ n
-    next = omega (arith, larger, fits)
+  pub passed_next : more < 20 → largest_of more < n → Passed n (more + 1)
+  passed_next h larger =
+      let next : 10 ^ suc more ≤ n = omega (arith, larger, fits) in
+      record { place = omega (arith, h); passed = rw (add-one more) (omega (arith, next)) }
 
-    -- the last of the table is passed by none
-    pub passed_place : more < 19
-    passed_place =
-        ⊎_elim (λ (h : more < 19). h)
-        (λ (h : 19 ≤ more). absurd (omega (arith, fits, subst (λ (k : ℕ). 10 ^ suc k ≤ n) (le_antisymm (omega (arith, p.place)) h) next)))
-        (below_or_not more 19)
+  -- the last of the table is passed by none
+  pub passed_all : 20 ≤ more → ⊥
+  passed_all h =
+      let all : 10 ^ 20 ≤ max n 1 = subst (λ (k : ℕ). 10 ^ k ≤ max n 1) (le_antisymm p.place h) p.passed in
+      omega (arith, fits, all)
 
-    pub passed_next : Passed n (more + 1)
-    passed_next = record { place = omega (arith, passed_place); passed = rw (add-one more) (omega (arith, next)) }
-
-  pub passed_end : n ≤ largest_of more → more + 1 ≡ length (decimal n)
+  pub passed_end : more < 20 → n ≤ largest_of more → more + 1 ≡ length (decimal n)
   unfolding decimal
-  passed_end h =
-      le_antisymm (omega (arith, digits_least 20 more n [] p.place p.passed))
+  passed_end place h =
+      le_antisymm (omega (arith, digits_least 20 more n [] place p.passed))
       (omega (arith, decimal_most more n (omega (arith, h, some_power (suc more)))))

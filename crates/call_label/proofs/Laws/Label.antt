@@ -17,6 +17,7 @@ use Rattle.book_laws.proofs.Good.{Good, facts, between_facts, between_test}
 use Rattle.book_laws.proofs.Held.{held_good}
 use Rattle.listing.specs.Limits.{Limits}
 use Rattle.listing.proofs.Laws.Most.{listing_most_lem}
+use Rattle.call_label.specs.Lengths.{rows_fit}
 
 -- lists of one length and not too many rows, and section lists that are long enough, as facts
 pub record Even (ls : Lists) : Type 0 where
@@ -54,8 +55,8 @@ module _ (b : Book) (lent : Lent) where
   abbrev rows : ℕ
   rows = rows_of lent.lists
 
-  abbrev pub rows_fit : Bool
-  rows_fit = every (λ (i : ℕ). row_fit b.held (line_of lent.lists i)) (counted 0 rows)
+  abbrev fit : Bool
+  fit = rows_fit b.held lent.lists
 
   -- a refused label answers its number and no bytes (01, Book, 7)
   refused : (n : ℕ) → n ≡ label_number b lent → (n ≡ 0 → ⊥) → record { number = n; bytes = 0 } ≡ label_answer b lent
@@ -74,19 +75,19 @@ module _ (b : Book) (lent : Lent) where
 
     -- what the code finds of the lists' lengths
     module _ {even short : Bool} (even_is : even ≡ register_even lent.lists) (short_is : short ≡ sections_short b.held lent) where
-      number_by : label_number b lent ≡ cond (not (even && rows_fit) || short) 39 0
+      number_by : label_number b lent ≡ cond (not (even && fit) || short) 39 0
       unfolding register_fit
-      number_by = number_is ∙ ap₂ (λ (e s : Bool). cond (not (e && rows_fit) || s) 39 0) (sym even_is) (sym short_is)
+      number_by = number_is ∙ ap₂ (λ (e s : Bool). cond (not (e && fit) || s) 39 0) (sym even_is) (sym short_is)
 
       -- 39 by the lengths, or by a row
       pub label_unfit : (not even || short) ≡ true → record { number = 39; bytes = 0 } ≡ label_answer b lent
       label_unfit e = refused 39 (sym (number_by ∙ ap (λ (t : Bool). cond t 39 0) (unfit even short e))) (λ z. omega (arith, z))
         where
-          unfit : (e s : Bool) → (not e || s) ≡ true → (not (e && rows_fit) || s) ≡ true
+          unfit : (e s : Bool) → (not e || s) ≡ true → (not (e && fit) || s) ≡ true
           unfit true s h = simp (h, or-true)
           unfit false s h = refl
 
-      pub label_rows_unfit : rows_fit ≡ false → record { number = 39; bytes = 0 } ≡ label_answer b lent
+      pub label_rows_unfit : fit ≡ false → record { number = 39; bytes = 0 } ≡ label_answer b lent
       label_rows_unfit e = refused 39 (sym (number_by ∙ simp (e, and-false))) (λ z. omega (arith, z))
 
       module _ (e : (not even || short) ≡ false) where
@@ -103,10 +104,10 @@ module _ (b : Book) (lent : Lent) where
         long_enough = long_facts b.held lent (sym short_is ∙ is_long_lem)
 
         -- and none of these: so many bytes
-        pub label_accepted : (bytes : ℕ) → rows_fit ≡ true → bytes ≡ length (listing_bytes b rows lent) → record { number = 0; bytes = bytes } ≡ label_answer b lent
+        pub label_accepted : (bytes : ℕ) → fit ≡ true → bytes ≡ length (listing_bytes b rows lent) → record { number = 0; bytes = bytes } ≡ label_answer b lent
         unfolding label_answer
-        label_accepted bytes fit counts =
-            let none : label_number b lent ≡ 0 = number_by ∙ simp (is_even, is_long_lem, fit) in
+        label_accepted bytes all_fit counts =
+            let none : label_number b lent ≡ 0 = number_by ∙ simp (is_even, is_long_lem, all_fit) in
             rw (none, counts)
 
 -- a row that is fit, as facts
@@ -139,7 +140,7 @@ rows_facts held line n e i h =
 -- a label that is not refused is within the limits of a listing (02, m, 3 and 4)
 module _ (b : Book) (lent : Lent) (wide : Widths lent) where
   limits : label_number b lent ≡ 0
-      → Limits b (rows b lent) lent.lists.buyers lent.lists.elevators lent.lists.sellers lent.lists.lots lent.lists.delivered lent.lists.terminated lent.lists.lapsed lent.sums
+      → Limits b (rows b lent) lent
   unfolding label_number register_fit
   limits e =
       let one = first_none _ _ (omega arith) e in

@@ -1,5 +1,6 @@
 -- How many bytes the rows of a listing have, and what the walks over them keep.
-use Rattle.numbers.proofs.Words.{ℕ, zero, suc, ◌+◌, ◌*◌, ◌≤◌, ◌<◌, arith, zero-add, add-one, ◌≡◌, refl, subst, ap, ◌∙◌, Bool, true, false, cond, List, length, length-append, every, counted, listed, entry, entry_ℤ, gathered, total, flat_map, drop}
+use Rattle.numbers.proofs.Words.{ℕ, zero, suc, ◌+◌, ◌*◌, ◌≤◌, ◌<◌, arith, zero-add, add-one, ◌≡◌, refl, subst, ap, ◌∙◌, Bool, true, false, cond, List, length, length-append, every, counted, listed, entry, gathered, total, flat_map, drop}
+use Rattle.std.specs.Prelude.{Some, None}
 use Rattle.numbers.proofs.Sums.{naturals}
 use Rattle.numbers.proofs.Lists.{Has, has, every_next, every_stop, every_end}
 use Rattle.numbers.proofs.Ranges.{counted-length, counted_at, sum_more}
@@ -10,7 +11,7 @@ use Rattle.rules.specs.File.{Lent}
 use Rattle.rules.specs.Listing.{row, line_row, section_row, listing_bytes}
 use Rattle.listing.specs.Columns.{head_row}
 use Rattle.listing.proofs.Laws.Rows.{texts, texts_more}
-use Rattle.call_label.specs.Lengths.{line_length, lines_length, section_length, sections_length}
+use Rattle.call_label.specs.Lengths.{line_length, lines_length, section_at_length, sections_length}
 
 -- the rows of a book whose codes have seven bytes (01, Program, 1 and 3)
 pub line_length_lem : (b : Book) (ls : Lists) (i : ℕ) → length (section_at b (entry ls.buyers i)).code ≡ 7 → length (section_at b (entry ls.sellers i)).code ≡ 7
@@ -19,7 +20,7 @@ unfolding line_row row
 line_length_lem b ls i buyer seller = simp length-append (omega (arith, buyer, seller))
 
 pub section_length_lem : (b : Book) (lent : Lent) (i : ℕ) → length (section_at b i).code ≡ 7
-    → length (section_row b lent i) ≡ section_length (entry lent.lists.delivered i) (entry lent.lists.terminated i) (entry lent.lists.lapsed i) (entry_ℤ lent.sums i)
+    → length (section_row b lent i) ≡ section_at_length lent i
 unfolding section_row row
 section_length_lem b lent i code = simp length-append (omega (arith, code))
 
@@ -32,16 +33,15 @@ texts_total f g (suc n) h =
 
 -- a listing, part by part, as the code finds its parts
 pub listing_length : (b : Book) (lent : Lent) (n : ℕ) → ((i : ℕ) → i < b.held → length (section_at b i).code ≡ 7) → ((i : ℕ) → i < n → (entry lent.lists.buyers i < b.held) × (entry lent.lists.sellers i < b.held))
-    → {head lines sections : ℕ} {fit : Bool} → head ≡ length (head_row n) → fit ≡ true → lines ≡ cond fit (lines_length b.lot lent.lists.elevators lent.lists.lots n) 0
-    → sections ≡ sections_length lent.lists.delivered lent.lists.terminated lent.lists.lapsed lent.sums b.held → head + lines + sections ≡ length (listing_bytes b n lent)
+    → {head lines sections : ℕ} → head ≡ length (head_row n) → lines ≡ lines_length b.lot lent.lists n
+    → sections ≡ sections_length lent b.held → head + lines + sections ≡ length (listing_bytes b n lent)
 unfolding listing_bytes
-listing_length b lent n codes named head-is all lines_are sections-are =
-    let lines_all = lines_are ∙ ap (λ (t : Bool). cond t (lines_length b.lot lent.lists.elevators lent.lists.lots n) 0) all in
+listing_length b lent n codes named head-is lines_are sections-are =
     simp length-append
     (omega (
       arith,
       head-is,
-      lines_all,
+      lines_are,
       sections-are,
       texts_total (line_row b lent.lists) _ n (λ i h. line_length_lem b lent.lists i (codes _ (named i h).0) (codes _ (named i h).1)),
       texts_total (section_row b lent) _ b.held (λ i h. section_length_lem b lent i (codes i h)),
@@ -80,3 +80,12 @@ module _ {fit : ℕ → Bool} {n i : ℕ} (j : Judged fit n i) where
 
   pub judged_end : n ≤ i → every fit (counted 0 n) ≡ true
   judged_end h = j.rest ∙ every_end (counted 0 n) i (omega (arith, h, counted-length 0 n)) fit
+
+-- rows that are counted are fit, and the others are not
+pub none_counted : (fit : Bool) (n : ℕ) → None ≡ cond fit (Some n) None → fit ≡ false
+none_counted true n e = cc
+none_counted false n e = refl
+
+pub some_counted : (fit : Bool) (n m : ℕ) → Some m ≡ cond fit (Some n) None → (fit ≡ true) × (m ≡ n)
+some_counted true n m e = (refl, cc)
+some_counted false n m e = cc

@@ -1,4 +1,4 @@
-use Rattle.numbers.proofs.Words.{◌≤◌, ◌<◌, arith, ◌≡◌, refl, sym, ap, ap₂, subst, ◌∙◌, cond, List, [], length, set, ℤ, pos, ◌+ℤ◌, entry_ℤ, nat_abs, w64, SFits, to_z, of_z, rules}
+use Rattle.numbers.proofs.Words.{◌≤◌, ◌<◌, arith, ◌≡◌, refl, sym, ap, ap₂, subst, ◌∙◌, cond, List, [], length, set, ℤ, pos, ◌+ℤ◌, entry_ℤ, nat_abs, w64, SFits, to_z, of_z}
 use Rattle.rules.specs.declared.{book.Section.Section, units.Kopecks.Kopecks}
 use Rattle.numbers.proofs.Lists.{Has, has, written_next}
 use Rattle.numbers.proofs.Filled.{filled_none, filled_length, filled_next, filled_here, filled_over}
@@ -30,7 +30,7 @@ listed : (c : In-loop-i) → c.loop-i.i < length c.args.list.now
 listed c = omega (arith, (accepted c.before.before.before.before).places)
 
 list_place : (c : In-loop-i) → c.loop-i.i < length c.loop-i.list
-list_place c = omega (arith, listed c, filled_length c.loop-i.invariant.2)
+list_place c = omega (arith, listed c, filled_length c.loop-i.invariant.1)
 
 value_small : (c : After-value_at-value) → nat_abs c.value_at-value.result.0 ≤ 1_000_000_000
 value_small c =
@@ -45,7 +45,7 @@ paid_is c =
     let at = c in
     let a = c.args in
     ap₂ (λ (x y : ℤ). cond a.added x (pos 0) +ℤ y)
-    (read_back w64 _ (search) ∙ filled_here at.loop-i.invariant.2 (listed c.before.before.before) (pos 0))
+    (read_back w64 _ (search) ∙ filled_here at.loop-i.invariant.1 (listed c.before.before.before) (pos 0))
     (read_back w64 _ (search) ∙ c.margin.ensures ∙ ap (λ (v : Kopecks). margin_of v (section_at a.b at.loop-i.i)) at.value_at-value.ensures)
 
 ended : (c : After-loop-i) → c.loop-i.i ≡ c.args.b.held
@@ -55,7 +55,7 @@ pub value_at-value-requires : goal.value_at-value-requires
 value_at-value-requires c = (book c).k.most
 
 pub loop-i-init : goal.loop-i-init
-loop-i-init c = (search rules, refl, filled_none _ _)
+loop-i-init c = (refl, filled_none _ _)
 
 pub offset_bounds-b-i : goal.offset_bounds-b-i
 offset_bounds-b-i c = omega (arith, place c)
@@ -95,10 +95,9 @@ loop-i-preserved c =
     let at = inside in
     let b = c.args.b in
     let i = at.loop-i.i in (
-      search rules,
-      ap₂ (λ (xs : List Section) (s : Section). set xs i s) at.loop-i.invariant.1 (c.settled.ensures ∙ ap (λ (v : Kopecks). settled v (section_at b i)) at.value_at-value.ensures)
+      ap₂ (λ (xs : List Section) (s : Section). set xs i s) at.loop-i.invariant.0 (c.settled.ensures ∙ ap (λ (v : Kopecks). settled v (section_at b i)) at.value_at-value.ensures)
           ∙ written_next (settled (value_at b c.args.price)) b.sections (here inside.before.before.before.before.before) (here inside.before.before.before.before.before).below,
-      filled_next at.loop-i.invariant.2 (listed inside.before.before.before.before.before) _ (read_back w64 _ (search) ∙ c.paid.ensures ∙ paid_is (goal.at.loop-i-preserved c).After-margin),
+      filled_next at.loop-i.invariant.1 (listed inside.before.before.before.before.before) _ (read_back w64 _ (search) ∙ c.paid.ensures ∙ paid_is (goal.at.loop-i-preserved c).After-margin),
     )
 
 pub returns : goal.returns
@@ -106,4 +105,4 @@ unfolding after_session
 returns c =
     let at = c in
     let a = c.args in
-    let all : at.loop-i.i ≡ a.b.held = ended (goal.at.returns c).After-loop-i in record { value = rw (c.following-next.ensures, at.loop-i.invariant.1, all); list_after = filled_over at.loop-i.invariant.2 a.b.held all }
+    let all : at.loop-i.i ≡ a.b.held = ended (goal.at.returns c).After-loop-i in record { value = rw (c.following-next.ensures, at.loop-i.invariant.0, all); list_after = filled_over at.loop-i.invariant.1 a.b.held all }

@@ -1,18 +1,19 @@
 -- The keys of a good book's sections give the section that a word means.
-use Rattle.numbers.proofs.Words.{ℕ, zero, suc, ◌+◌, ◌≤◌, ◌<◌, arith, ◌≡◌, refl, sym, ap, ap₂, ◌∙◌, Bool, true, false, cond, List, [], ◌∷◌, eqb, eq-eqb, ne_eqb, ltb, lt-ltb, le-ltb, length, length-map, get_or-map, get_or, get_or-take, passing, counted, entry, same, big_endian, ◌and◌}
+use Rattle.numbers.proofs.Words.{ℕ, zero, suc, ◌+◌, ◌≤◌, ◌<◌, arith, ◌≡◌, refl, sym, ap, ap₂, ◌∙◌, Bool, true, cond, List, [], ◌∷◌, eqb, eq-eqb, ne_eqb, ltb, lt-ltb, le-ltb, length, length-map, get_or-map, get_or, get_or-take, passing, counted, entry, same, big_endian, ◌and◌}
 use Rattle.numbers.specs.Text.{is_number, digits_value}
 use Rattle.rules.specs.declared.book.{Book.Book, Section.Section}
 use Rattle.numbers.proofs.Keys.{big_same}
 use Rattle.numbers.proofs.Little.{Bytes}
-use Rattle.numbers.proofs.Tests.{together}
+use Rattle.numbers.proofs.Tests.{together, fails_left, fails_right}
 use Rattle.rules.specs.Book.{good, section_at, section_of_noughts, held_sections}
 use Rattle.rules.specs.Failures.{no_section, section_meant}
 use Rattle.book_laws.proofs.Good.{Good, facts}
 use Rattle.book_laws.proofs.Held.{held_length, held_good}
 use Rattle.method_laws.specs.Columns.{keys_of}
 use Rattle.section_code.proofs.Laws.{good_bytes}
-use Rattle.program_words.specs.Digits.{no_number, number_or}
-use Rattle.program_words.proofs.Digits.{is_number_lem}
+use Rattle.std.proofs.Common.{Some, None}
+use Rattle.program_words.specs.Digits.{number_in}
+use Rattle.program_words.proofs.Digits.{is_number_lem, is_none}
 use Rattle.failures.specs.Meant.{places_from, place_of, number_below}
 
 -- numbers that pass one of two tests, where the tests agree
@@ -60,19 +61,21 @@ module _ (b : Book) (is : good b ≡ true) {keys : List ℕ} (e : keys ≡ keys_
   unfolding number_below section_meant
   meant_number other = ap (λ (n : ℕ). number_below n word) keys_long ∙ sym (ap (λ (t : Bool). cond t of_code of_number) (ne_eqb (length word) 7 other))
 
--- the number in a word, with one more than the largest for none, says it
-module _ (held : ℕ) (word : List ℕ) (few : held ≤ 128) {n : ℕ} (e : n ≡ number_or word) where
-  pub number_held : n < held → n ≡ number_below held word
-  unfolding number_below
-  number_held h =
-      let known = is_number_lem word (omega (arith, e, h, few)) in
-      let value = e ∙ known.1 in
-      value ∙ sym (ap (λ (t : Bool). cond t (digits_value word) no_section) (together known.0 (lt-ltb (digits_value word) held (omega (arith, value, h)))))
+-- the number in a word says it
+module _ (held : ℕ) (word : List ℕ) where
+  module _ {n : ℕ} (e : number_in word ≡ Some n) where
+    pub number_held : n < held → n ≡ number_below held word
+    unfolding number_below
+    number_held h =
+        let known = is_number_lem word n e in
+        known.1 ∙ sym (ap (λ (t : Bool). cond t (digits_value word) no_section) (together known.0 (lt-ltb (digits_value word) held (omega (arith, known.1, h)))))
 
-  pub number_past : held ≤ n → no_section ≡ number_below held word
-  unfolding number_below number_or
-  number_past h = go (is_number word) e
-    where
-      go : (t : Bool) → n ≡ cond t (digits_value word) no_number → no_section ≡ cond (t and ltb (digits_value word) held) (digits_value word) no_section
-      go true value = sym (ap (λ (t : Bool). cond t (digits_value word) no_section) (le-ltb (digits_value word) held (omega (arith, value, h))))
-      go false value = refl
+    pub number_past : held ≤ n → no_section ≡ number_below held word
+    unfolding number_below
+    number_past h =
+        let known = is_number_lem word n e in
+        sym (ap (λ (t : Bool). cond t (digits_value word) no_section) (fails_right (is_number word) _ (le-ltb (digits_value word) held (omega (arith, known.1, h)))))
+
+  pub number_none : number_in word ≡ None → no_section ≡ number_below held word
+  unfolding number_below
+  number_none e = sym (ap (λ (t : Bool). cond t (digits_value word) no_section) (fails_left (is_number word) _ (is_none word e)))

@@ -1,8 +1,11 @@
 -- What the program prints: which text it is, how long it is, and that no byte of the input is missed.
 use Rattle.numbers.proofs.Words.{ℕ, ◌≤◌, ◌<◌, ◌^◌, arith, ◌≡◌, refl, sym, ap, subst, ◌∙◌, ⊎_elim, Bool, true, false, cond, List, [], ◌∷◌, take, length, length-append, eq-eqb, ne_eqb}
 use Rattle.numbers.specs.Text.{bytes, decimal}
-use Rattle.rules.specs.declared.book.{Book.Book, FailuresAnswer.FailuresAnswer}
-use Rattle.numbers.proofs.Tests.{same_or_not}
+use Rattle.rules.specs.declared.book.{Book.Book, Failures.Failures}
+use Rattle.rules.specs.declared.refusal.{Refusal.Refusal}
+use Rattle.std.proofs.Common.{Result, Err}
+use Rattle.rules.specs.Answers.{refusal_number, failures_answer_in}
+use Rattle.file_opening.proofs.Laws.{refuses, refusal_few}
 use Rattle.rules.specs.File.{misshapen}
 use Rattle.rules.specs.Listing.{row, refusal_row}
 use Rattle.rules.specs.Failures.{present_book, answer_row, failures_printed}
@@ -19,35 +22,28 @@ pub refusal_most : (number : ℕ) → number < 256 → length (refusal_row numbe
 unfolding row bytes
 refusal_most number h = simp length-append (omega (arith, decimal_most 2 number (omega (arith, h))))
 
-module _ (a : FailuresAnswer) where
+pub refusal_short : (r : Refusal) → length (refusal_row (refusal_number r)) ≤ 12
+refusal_short r = refusal_most (refusal_number r) (refusal_few r)
+
+-- three counts of 32 bits (02, n, 2)
+module _ (f : Failures) (full : f.full < 2 ^ 32) (part : f.part < 2 ^ 32) (none : f.none < 2 ^ 32) where
   abbrev counts : List (List ℕ)
-  counts = decimal a.full ∷ decimal a.part ∷ decimal a.none ∷ []
+  counts = decimal f.full ∷ decimal f.part ∷ decimal f.none ∷ []
 
-  row_refused : (a.number ≡ 0 → ⊥) → refusal_row a.number ≡ answer_row a
-  unfolding answer_row
-  row_refused ne = sym (ap (λ (t : Bool). cond t (row counts) (refusal_row a.number)) (ne_eqb a.number 0 ne))
+  pub counts_most : length (row counts) ≤ 33
+  unfolding row
+  counts_most = simp length-append (omega (arith, decimal_most 9 f.full (omega (arith, full)), decimal_most 9 f.part (omega (arith, part)), decimal_most 9 f.none (omega (arith, none))))
 
-  pub refusal_laid : (a.number ≡ 0 → ⊥) → {was now : List ℕ} {next : ℕ} → Laid was 0 (refusal_row a.number) now next → Laid was 0 (answer_row a) now next
-  refusal_laid ne {was} {now} {next} = subst (λ (text : List ℕ). Laid was 0 text now next) (row_refused ne)
+  pub counts_begun : (was : List ℕ) → 33 ≤ length was → Begun was 0 (row counts) was 0 (ended counts)
+  counts_begun was room = begun_row was 0 counts (omega (arith, counts_most, room))
 
-  row_counts : a.number ≡ 0 → row counts ≡ answer_row a
-  unfolding answer_row
-  row_counts e = sym (ap (λ (t : Bool). cond t (row counts) (refusal_row a.number)) (eq-eqb a.number 0 e))
+-- an answer that is a refusal, in its row
+refused_row : (r : Refusal) → refusal_row (refusal_number r) ≡ answer_row (failures_answer_in (Err r))
+unfolding answer_row
+refused_row r = sym (ap (λ (t : Bool). cond t (row (decimal 0 ∷ decimal 0 ∷ decimal 0 ∷ [])) (refusal_row (refusal_number r))) (ne_eqb (refusal_number r) 0 (refuses r)))
 
-  -- three counts of 32 bits (02, n, 2)
-  module _ (full : a.full < 2 ^ 32) (part : a.part < 2 ^ 32) (none : a.none < 2 ^ 32) where
-    counts_most : length (row counts) ≤ 33
-    unfolding row
-    counts_most = simp length-append (omega (arith, decimal_most 9 a.full (omega (arith, full)), decimal_most 9 a.part (omega (arith, part)), decimal_most 9 a.none (omega (arith, none))))
-
-    pub counts_begun : a.number ≡ 0 → (was : List ℕ) → 33 ≤ length was → Begun was 0 (answer_row a) was 0 (ended counts)
-    counts_begun e was room = subst (λ (text : List ℕ). Begun was 0 text was 0 (ended counts)) (row_counts e) (begun_row was 0 counts (omega (arith, counts_most, room)))
-
-    pub row_most_lem : a.number < 256 → length (answer_row a) ≤ 33
-    row_most_lem h =
-        ⊎_elim (λ (e : a.number ≡ 0). omega (arith, counts_most, ap length (row_counts e)))
-        (λ (ne : a.number ≡ 0 → ⊥). omega (arith, refusal_most a.number h, ap length (row_refused ne)))
-        (same_or_not a.number 0)
+pub refused_laid : {a : Result Failures Refusal} {r : Refusal} → a ≡ Err r → {was now : List ℕ} {next : ℕ} → Laid was 0 (refusal_row (refusal_number r)) now next → Laid was 0 (answer_row (failures_answer_in a)) now next
+refused_laid {a} {r} is {was} {now} {next} = subst (λ (text : List ℕ). Laid was 0 text now next) (refused_row r ∙ ap (λ (x : Result Failures Refusal). answer_row (failures_answer_in x)) (sym is))
 
 -- of a file, by the book that it leaves, or its refusal (02, n, 2 and 5; 01, Reading, 1)
 module _ (file asked : List ℕ) (named : List (List ℕ)) where

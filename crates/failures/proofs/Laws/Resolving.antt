@@ -1,6 +1,7 @@
 -- The words resolved one after the other, and the call by the first of them and the others.
 use Rattle.numbers.proofs.Words.{ℕ, ◌+◌, ◌-◌, ◌≤◌, ◌<◌, add-one, arith, ◌≡◌, refl, sym, ap, ap₂, subst, subst₂, ◌∙◌, true, List, [], ◌∷◌, ◌++◌, map, map-append, length, length-map, length-append, take, drop, take_at, take_all, take-suc-set, set, replicate, length-replicate, entry}
-use Rattle.rules.specs.declared.book.{Answer.Answer, Book.Book}
+use Rattle.rules.specs.declared.book.{Book.Book}
+use Rattle.rules.specs.Answers.{Answer}
 use Rattle.rules.specs.Book.{good, held_sections}
 use Rattle.rules.specs.Failures.{failures_answer, section_meant, answer_row, failures_printed}
 use Rattle.rules.specs.Listing.{refusal_row}

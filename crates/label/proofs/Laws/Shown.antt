@@ -1,51 +1,23 @@
 -- The label of a file is the length of what is printed for it, and no label is longer than the buffer of the listing's program (02, m, 3).
-use Rattle.numbers.proofs.Words.{ℕ, ◌≤◌, ◌<◌, le_trans, arith, ◌≡◌, refl, sym, ap, subst, ◌∙◌, ⊎_elim, true, List, [], ◌∷◌, length, length-append, length-drop, length-replicate, replicate, drop, pos, take, listed, entry_ℤ, over}
+use Rattle.numbers.proofs.Words.{ℕ, ◌≤◌, ◌<◌, le_trans, arith, ◌≡◌, refl, sym, ap, ◌∙◌, ⊎_elim, true, List, [], ◌∷◌, length, length-append, take}
 use Rattle.numbers.specs.Text.{bytes, decimal}
 use Rattle.numbers.proofs.Tests.{same_or_not}
-use Rattle.rules.specs.declared.book.{FileAnswer.FileAnswer}
-use Rattle.rules.specs.Book.{good, held_sections, filed_notices}
-use Rattle.rules.specs.Calls.{handed_out}
-use Rattle.rules.specs.Expiry.Passes.{buyers_of, elevators_of, sellers_of, lots_of}
-use Rattle.rules.specs.Expiry.Call.{remaining, terminated, kept, lapsed, delivered, expiry_written}
-use Rattle.rules.specs.File.{Lent, Run, read_whole, file_answer, file_lists}
+use Rattle.std.specs.Prelude.{Result, Ok, Err}
+use Rattle.std.specs.Result.{result_unwrap_or}
+use Rattle.rules.specs.declared.refusal.Refusal.{Refusal}
+use Rattle.rules.specs.Answers.{FileAnswer, label_answer_in}
+use Rattle.rules.specs.Book.{good}
+use Rattle.rules.specs.File.{Lent, read_whole, file_answer, file_lists}
 use Rattle.rules.specs.Listing.{row, noughts, printed}
 use Rattle.rules.specs.Label.{label_answer, label_printed, cut_to, listing_most, read_answer, LabelShown}
 use Rattle.read_laws.proofs.Calls.{whole_sound}
 use Rattle.listing.specs.Columns.{refused_row}
 use Rattle.listing.proofs.Laws.Most.{decimal_few, listing_most_lem}
-use Rattle.file_listing.proofs.Laws.{listable, prints_accepted, prints_refusal}
+use Rattle.file_listing.proofs.Laws.{listable, roomy, prints_accepted, prints_refusal}
 use Rattle.program_io.proofs.Start.{start_printed}
 use Rattle.call_label.proofs.Laws.Label.{label_most}
 use Rattle.call_label.proofs.Laws.Cut.{label_cut}
 use Rattle.label.proofs.Laws.Fullest.{fullest_book, fullest_lists, fullest, fullest_wide}
-
--- lists with the places that the program lends
-abbrev Places : Lent → Type 0
-Places l =
-    (382 ≤ length l.lists.buyers) × (382 ≤ length l.lists.elevators) × (382 ≤ length l.lists.sellers) × (382 ≤ length l.lists.lots)
-    × (128 ≤ length l.lists.delivered) × (128 ≤ length l.lists.terminated) × (128 ≤ length l.lists.lapsed) × (128 ≤ length l.sums)
-
-over_places : {A : Type 0} (xs : List A) (n : ℕ) (x : A) → n ≤ length (over xs (replicate n x))
-over_places xs n x = omega (arith, length-append xs (drop (length xs) (replicate n x)), length-drop (length xs) (replicate n x), length-replicate n x)
-
--- an accepted read hands out lists with as many
-places : (run : Run) → run.number ≡ 0 → Places (file_lists run noughts)
-unfolding file_lists expiry_written noughts
-places run e =
-    let ss = held_sections run.book in
-    let ns = filed_notices run.book in
-    let sums = listed run.book.held (entry_ℤ run.sums) in
-    let new : Lent = record { lists = expiry_written run.book noughts.lists; sums = over sums noughts.sums } in
-    subst (λ (n : ℕ). Places (handed_out n new noughts)) (sym e) (
-      over_places {A = ℕ} (buyers_of (kept ss ns)) 382 0,
-      over_places {A = ℕ} (elevators_of (kept ss ns)) 382 0,
-      over_places {A = ℕ} (sellers_of (kept ss ns)) 382 0,
-      over_places {A = ℕ} (lots_of (kept ss ns)) 382 0,
-      over_places {A = ℕ} (delivered ss ns) 128 0,
-      over_places {A = ℕ} (terminated ss (remaining ss ns)) 128 0,
-      over_places {A = ℕ} (lapsed ss ns) 128 0,
-      over_places sums 128 (pos 0),
-    )
 
 -- what an accepted read hands out
 module _ (file : List ℕ) {a : FileAnswer} (answer : a ≡ file_answer (read_whole file noughts)) (z : a.number ≡ 0) where
@@ -66,7 +38,7 @@ module _ (file : List ℕ) {a : FileAnswer} (answer : a ≡ file_answer (read_wh
     pub label_is : label_answer a.book (cut_to a.kept after) ≡ record { number = 0; bytes = length (printed file) }
     label_is =
         let limits = listable file answer lists z in
-        let room = subst Places (sym lists) (places (read_whole file noughts) read_accepted) in
+        let room = roomy file answer lists z in
         label_cut a.book after a.kept book_good
         (record {
           buyers = le_trans limits.few room.0;
@@ -114,3 +86,8 @@ label_shown =
 pub start_labelled : (file : List ℕ) (most : ℕ) → 64_616 < most → label_printed (take most file) ≡ label_printed file
 unfolding label_printed
 start_labelled file most h = ap (λ (text : List ℕ). row (decimal (length text) ∷ [])) (start_printed file most h)
+
+-- the bytes that a label answers, 0 where it is refused
+pub label_bytes : (label : Result ℕ Refusal) → result_unwrap_or label 0 ≡ (label_answer_in label).bytes
+label_bytes (Ok bytes) = refl
+label_bytes (Err refusal) = refl

@@ -1,56 +1,53 @@
-use Rattle.numbers.proofs.Words.{◌≤◌, arith, sym, ap, ◌∙◌, length, length-take-le}
-use Rattle.rules.specs.declared.book.{LabelAnswer.LabelAnswer}
-use Rattle.rules.specs.File.{Lent}
+use Rattle.numbers.proofs.Words.{◌≡◌, ◌≤◌, sym, ap, ◌∙◌, le_trans, refl, length, length-take-le}
+use Rattle.std.specs.Prelude.{Ok}
+use Rattle.rules.specs.Answers.{LabelAnswer, file_answer_in}
+use Rattle.rules.specs.Book.{no_book}
+use Rattle.rules.specs.File.{file_answer, read_whole}
+use Rattle.rules.specs.Lent.{lent_of}
 use Rattle.rules.specs.Listing.{noughts}
-use Rattle.file_read.specs.Lent.{lent}
-use Rattle.file_listing.proofs.Laws.{prints_refusal}
-use Rattle.label.proofs.Laws.Shown.{few_lines, label_is}
+use Rattle.listing.specs.Columns.{refused_row}
+use Rattle.file_opening.proofs.Laws.{refuses}
+use Rattle.file_listing.proofs.Laws.{Places, roomy, prints_refusal}
+use Rattle.label.proofs.Laws.Shown.{few_lines, label_is, label_bytes}
 use Rattle.label.proofs.counted.Goals as goal
-use Rattle.label.proofs.counted.Goals.{Else-answer-ne-ACCEPTED}
+use Rattle.label.proofs.counted.Goals.{In-Ok}
 
--- the lists that the read hands out
-abbrev handed : Else-answer-ne-ACCEPTED → Lent
-handed c =
-    let new = c.read-answer.new in
-    lent new.buyers new.elevators new.sellers new.lots new.delivered new.terminated new.lapsed new.sums
+-- what an accepted read answers, and the places of the lists that it hands out
+module _ (c : In-Ok) where
+  is : file_answer_in no_book (Ok c.in-Ok.read) ≡ file_answer (read_whole c.args.file.now noughts)
+  unfolding noughts
+  is = ap (file_answer_in no_book) (sym c.in-Ok.is) ∙ c.read.ensures.value
 
--- an accepted read keeps no more lines than each register list has places
-few : (c : Else-answer-ne-ACCEPTED) → c.read-answer.result.kept ≤ 382
+  few : c.in-Ok.read.kept ≤ 382
+  unfolding noughts
+  few = few_lines c.args.file.now is refl {after = lent_of c.read.new.lent} c.read.ensures.sums_after
+
+  places : Places (lent_of c.read.new.lent)
+  unfolding noughts
+  places = roomy c.args.file.now is {after = lent_of c.read.new.lent} c.read.ensures.sums_after refl
+
+pub returns-in-Err : goal.returns-in-Err
 unfolding noughts
-few c = few_lines c.args.file.now c.read-answer.ensures.value c.if-answer-ne-ACCEPTED.false {after = handed c} c.read-answer.ensures.sums_after
+returns-in-Err c =
+    c.refused.ensures
+    ∙ ap (λ n. length (refused_row n c.in-Err.e.place)) c.number_of.ensures
+    ∙ ap length (sym (prints_refusal c.args.file.now (ap (file_answer_in no_book) (sym c.in-Err.is) ∙ c.read.ensures.value) (refuses c.in-Err.e.refusal)))
 
-pub returns-then-answer-ne-ACCEPTED : goal.returns-then-answer-ne-ACCEPTED
-unfolding noughts
-returns-then-answer-ne-ACCEPTED c = c.refused.ensures ∙ ap length (sym (prints_refusal c.args.file.now c.read-answer.ensures.value c.if-answer-ne-ACCEPTED.true))
+pub slice_bounds-cut-end : goal.slice_bounds-cut-end
+slice_bounds-cut-end c = let at = (goal.at.slice_bounds-cut-end c).In-Ok in sym (length-take-le _ _ (le_trans (few at) (places at).0))
 
-pub slice_bounds-buyers-end : goal.slice_bounds-buyers-end
-slice_bounds-buyers-end c = omega (arith, few c, c.read-answer.auto.buyers)
+pub slice_bounds-cut-end-2 : goal.slice_bounds-cut-end-2
+slice_bounds-cut-end-2 c = let at = (goal.at.slice_bounds-cut-end-2 c).In-Ok in sym (length-take-le _ _ (le_trans (few at) (places at).1))
 
-pub slice_bounds-listing_length-end : goal.slice_bounds-listing_length-end
-slice_bounds-listing_length-end c = sym (length-take-le _ _ (omega (arith, few (goal.at.slice_bounds-listing_length-end c).Else-answer-ne-ACCEPTED, c.read-answer.auto.buyers)))
+pub slice_bounds-cut-end-3 : goal.slice_bounds-cut-end-3
+slice_bounds-cut-end-3 c = let at = (goal.at.slice_bounds-cut-end-3 c).In-Ok in sym (length-take-le _ _ (le_trans (few at) (places at).2))
 
-pub slice_bounds-elevators-end : goal.slice_bounds-elevators-end
-slice_bounds-elevators-end c = omega (arith, few (goal.at.slice_bounds-elevators-end c).Else-answer-ne-ACCEPTED, c.read-answer.auto.elevators)
-
-pub slice_bounds-listing_length-end-2 : goal.slice_bounds-listing_length-end-2
-slice_bounds-listing_length-end-2 c = sym (length-take-le _ _ (omega (arith, few (goal.at.slice_bounds-listing_length-end-2 c).Else-answer-ne-ACCEPTED, c.read-answer.auto.elevators)))
-
-pub slice_bounds-sellers-end : goal.slice_bounds-sellers-end
-slice_bounds-sellers-end c = omega (arith, few (goal.at.slice_bounds-sellers-end c).Else-answer-ne-ACCEPTED, c.read-answer.auto.sellers)
-
-pub slice_bounds-listing_length-end-3 : goal.slice_bounds-listing_length-end-3
-slice_bounds-listing_length-end-3 c = sym (length-take-le _ _ (omega (arith, few (goal.at.slice_bounds-listing_length-end-3 c).Else-answer-ne-ACCEPTED, c.read-answer.auto.sellers)))
-
-pub slice_bounds-lots-end : goal.slice_bounds-lots-end
-slice_bounds-lots-end c = omega (arith, few (goal.at.slice_bounds-lots-end c).Else-answer-ne-ACCEPTED, c.read-answer.auto.lots)
-
-pub slice_bounds-listing_length-end-4 : goal.slice_bounds-listing_length-end-4
-slice_bounds-listing_length-end-4 c = sym (length-take-le _ _ (omega (arith, few (goal.at.slice_bounds-listing_length-end-4 c).Else-answer-ne-ACCEPTED, c.read-answer.auto.lots)))
+pub slice_bounds-cut-end-4 : goal.slice_bounds-cut-end-4
+slice_bounds-cut-end-4 c = let at = (goal.at.slice_bounds-cut-end-4 c).In-Ok in sym (length-take-le _ _ (le_trans (few at) (places at).3))
 
 pub returns : goal.returns
 unfolding noughts
 returns c =
-    ap (λ (a : LabelAnswer). a.bytes) (
-    c.listing_length-label.ensures
-    ∙ label_is c.args.file.now c.read-answer.ensures.value c.if-answer-ne-ACCEPTED.false {after = handed (goal.at.returns c).Else-answer-ne-ACCEPTED} c.read-answer.ensures.sums_after
-    )
+    c.unwrap_or.ensures
+    ∙ label_bytes c.listing_length.result
+    ∙ ap (λ (a : LabelAnswer). a.bytes) (c.listing_length.ensures ∙ label_is c.args.file.now (is (goal.at.returns c).In-Ok) refl {after = lent_of c.read.new.lent} c.read.ensures.sums_after)

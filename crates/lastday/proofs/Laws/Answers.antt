@@ -2,8 +2,9 @@
 use Rattle.numbers.proofs.Words.{ℕ, zero, suc, ◌+◌, ◌-◌, ◌^◌, ◌≤◌, ◌<◌, arith, ◌≡◌, refl, sym, ap, ap₂, subst, ◌∙◌, Bool, true, false, not, cond, List, [], ◌∷◌, length, length-append, take, drop, get_or-take, eqb, eqb-true, leb, le-leb, lt-leb, ◌and◌, every, entry}
 use Rattle.numbers.specs.Text.{bytes, decimal, is_number}
 use Rattle.numbers.proofs.Tests.{fails_left, fails_right, together}
-use Rattle.rules.specs.declared.dates.{Date.Date, LastDay.LastDay}
-use Rattle.rules.specs.declared.dates.LastDay.TheVariants.{On, Refused}
+use Rattle.std.proofs.Common.{Ok, Err}
+use Rattle.rules.specs.declared.dates.{Date.Date}
+use Rattle.rules.specs.Words.{LastDay}
 use Rattle.rules.specs.Listing.{row, refusal_row}
 use Rattle.rules.specs.Calls.{◌if◌, first}
 use Rattle.rules.specs.LastTradingDay.{number_of_date, last_day, closed_dates_good, last_day_number, last_day_answer}
@@ -38,52 +39,45 @@ pub long_row : (text : List ℕ) → 4_096 < length text → row_answer text ≡
 unfolding row_good
 long_row text h = bad_answer text (fails_left (leb (length text) 4_096) (every is_number (fields_of text) and leb 2 (length (fields_of text))) (lt-leb (length text) 4_096 h))
 
+-- a field is no number
+pub no_numbers : (text : List ℕ) → every is_number (fields_of text) ≡ false → row_answer text ≡ bad_row
+unfolding row_good
+no_numbers text isnt = bad_answer text (fails_right (leb (length text) 4_096) _ (fails_left (every is_number (fields_of text)) _ isnt))
+
 module _ {text numbers : List ℕ} {count : ℕ} (r : NumbersRead text numbers count) where
-  -- a field is no number, or there is one alone
+  -- there is one alone
   pub few_numbers : count < 2 → row_answer text ≡ bad_row
   unfolding row_good
-  few_numbers few = bad_answer text (fails_right (leb (length text) 4_096) _ (go (every is_number (fields_of text)) r.counted))
-    where
-      go : (t : Bool) → count ≡ cond t (length (fields_of text)) 0 → (t and leb 2 (length (fields_of text))) ≡ false
-      go true e = lt-leb 2 (length (fields_of text)) (omega (arith, e, few))
-      go false e = refl
+  few_numbers few = bad_answer text (fails_right (leb (length text) 4_096) _ (fails_right (every is_number (fields_of text)) _ (lt-leb 2 (length (fields_of text)) (omega (arith, few, r.counted)))))
 
-  -- all are numbers, and there are two or more
+  -- there are two or more
   module _ (fit : length text ≤ 4_096) (some : 2 ≤ count) where
-    numbers_good : (every is_number (fields_of text) ≡ true) × (count ≡ length (fields_of text))
-    numbers_good = go (every is_number (fields_of text)) r.counted
-      where
-        go : (t : Bool) → count ≡ cond t (length (fields_of text)) 0 → (t ≡ true) × (count ≡ length (fields_of text))
-        go true e = (refl, e)
-        go false e = absurd (omega (arith, e, some))
-
     read_row : row_good text ≡ true
     unfolding row_good
-    read_row =
-        together (le-leb (length text) 4_096 fit) (together numbers_good.0 (le-leb 2 (length (fields_of text)) (omega (arith, some, numbers_good.1))))
+    read_row = together (le-leb (length text) 4_096 fit) (together r.good (le-leb 2 (length (fields_of text)) (omega (arith, some, r.counted))))
 
     entry_read : (i : ℕ) → i < 2 → entry numbers i ≡ entry (numbers_of text) i
-    entry_read i h = sym (get_or-take count numbers i 0 (omega (arith, h, some))) ∙ ap (λ (ns : List ℕ). entry ns i) (r.read numbers_good.0)
+    entry_read i h = sym (get_or-take count numbers i 0 (omega (arith, h, some))) ∙ ap (λ (ns : List ℕ). entry ns i) r.read
 
     pub answer_read : {answer : LastDay} → answer ≡ last_day_answer (entry numbers 0) (entry numbers 1) (take (count - 2) (drop 2 numbers)) → row_answer text ≡ answer_row answer
     answer_read e =
         let all : suc (suc (count - 2)) ≡ count = omega (arith, some) in
         let rest : take (count - 2) (drop 2 numbers) ≡ drop 2 (numbers_of text) =
-        later_part (count - 2) numbers ∙ ap (λ (n : ℕ). drop 2 (take n numbers)) all ∙ ap (drop 2) (r.read numbers_good.0) in
+        later_part (count - 2) numbers ∙ ap (λ (n : ℕ). drop 2 (take n numbers)) all ∙ ap (drop 2) r.read in
         good_answer text read_row
         ∙ sym (ap answer_row (e ∙ ap₂ (λ (year month : ℕ). last_day_answer year month (take (count - 2) (drop 2 numbers))) (entry_read 0 (omega arith)) (entry_read 1 (omega arith)) ∙ ap (last_day_answer (entry (numbers_of text) 0) (entry (numbers_of text) 1)) rest))
 
 -- how long they are
-on_length : (d : Date) → length (answer_row (On d)) ≡ length (decimal (number_of_date d)) + 1
+on_length : (d : Date) → length (answer_row (Ok d)) ≡ length (decimal (number_of_date d)) + 1
 unfolding answer_row row
 on_length d = length-append (decimal (number_of_date d)) (10 ∷ [])
 
-refused_length : (number : ℕ) → length (answer_row (Refused number)) ≡ 8 + (length (decimal number) + 1)
+refused_length : (number : ℕ) → length (answer_row (Err number)) ≡ 8 + (length (decimal number) + 1)
 unfolding answer_row row bytes
 refused_length number = let digits = length-append (decimal number) (10 ∷ []) in omega (arith, digits)
 
 -- an answer that is a date: there is room for its digits and the row's end, and written they are its text
-module _ {answer : LastDay} {d : Date} {n : ℕ} (is : answer ≡ On d) (e : n ≡ number_of_date d) where
+module _ {answer : LastDay} {d : Date} {n : ℕ} (is : answer ≡ Ok d) (e : n ≡ number_of_date d) where
   pub on_room : (at : ℕ) {room : ℕ} → at + length (answer_row answer) ≤ room → at + length (decimal n) < room
   on_room at h = omega (arith, h, ap (λ (a : LastDay). length (answer_row a)) is, on_length d, ap (λ (m : ℕ). length (decimal m)) e)
 
@@ -93,7 +87,7 @@ module _ {answer : LastDay} {d : Date} {n : ℕ} (is : answer ≡ On d) (e : n �
       subst (λ (text : List ℕ). Laid was at text now next) (ap (λ (m : ℕ). field (decimal m) 10) e ∙ sym (ap answer_row is))
 
 -- an answer that is a refusal
-module _ {answer : LastDay} {number : ℕ} (is : answer ≡ Refused number) where
+module _ {answer : LastDay} {number : ℕ} (is : answer ≡ Err number) where
   pub refused_room : (at : ℕ) {room : ℕ} → at + length (answer_row answer) ≤ room → at + length (refusal_row number) ≤ room
   unfolding answer_row
   refused_room at h = omega (arith, h, ap (λ (a : LastDay). length (answer_row a)) is)
@@ -123,7 +117,7 @@ answer_most : (year month : ℕ) (closed : List ℕ) → length (answer_row (las
 unfolding last_day_answer
 answer_most year month closed = go (eqb (last_day_number year month closed) 0) refl
   where
-    go : (t : Bool) → eqb (last_day_number year month closed) 0 ≡ t → length (answer_row (cond t (On (last_day year month closed)) (Refused (last_day_number year month closed)))) ≤ 11
+    go : (t : Bool) → eqb (last_day_number year month closed) 0 ≡ t → length (answer_row (cond t (Ok (last_day year month closed)) (Err (last_day_number year month closed)))) ≤ 11
     go true e =
         let d = last_day year month closed in
         omega (arith, on_length d, decimal_most 7 (number_of_date d) (date_most year month closed (eqb-true _ 0 e)))

@@ -8,7 +8,7 @@ use Rattle.rules.specs.Units.{tonnes_of}
 use Rattle.rules.specs.Expiry.Call.{Lists}
 use Rattle.rules.specs.File.{Lent}
 use Rattle.rules.specs.Listing.{row, line_row, section_row, listing_bytes}
-use Rattle.listing.specs.Columns.{head_row, refused_row, listing}
+use Rattle.listing.specs.Columns.{head_row, refused_row}
 use Rattle.listing.specs.Limits.{Limits}
 use Rattle.listing.proofs.Laws.Digits.{digits_more, digits_last, some_place, below_zero, above_zero}
 use Rattle.listing.proofs.Laws.Rows.{texts_most}
@@ -59,49 +59,46 @@ pub refused_most : (number place : ℕ) → number < 256 → place < 10 ^ 20 →
 unfolding row bytes
 refused_most number place h k = simp length-append (omega (arith, decimal_most 2 number (omega (arith, h)), decimal_most 19 place k))
 
-module _ {b : Book} {kept : ℕ} {buyers elevators sellers lots delivered terminated lapsed : List ℕ} {sums : List ℤ} (l : Limits b kept buyers elevators sellers lots delivered terminated lapsed sums) where
+module _ {b : Book} {kept : ℕ} {lent : Lent} (l : Limits b kept lent) where
   abbrev lists : Lists
-  lists = record { buyers = buyers; elevators = elevators; sellers = sellers; lots = lots; delivered = delivered; terminated = terminated; lapsed = lapsed }
-
-  abbrev lent : Lent
-  lent = record { lists = lists; sums = sums }
+  lists = lent.lists
 
   -- what the writer asks of its lines
-  pub lines_asked : (i : ℕ) → i < kept → (entry buyers i < 128) × (entry sellers i < 128) × (entry lots i ≤ 1_000_000)
+  pub lines_asked : (i : ℕ) → i < kept → (entry lists.buyers i < 128) × (entry lists.sellers i < 128) × (entry lists.lots i ≤ 1_000_000)
   lines_asked i h = let e = l.line i h in (omega (arith, e.0, l.held), omega (arith, e.2, l.held), e.3)
 
   pub line_most : (i : ℕ) → i < kept → length (line_row b lists i) ≤ 38
   unfolding line_row row tonnes_of
   line_most i h =
       let e = l.line i h in
-      let tonnes : entry lots i * b.lot.0 ≤ 1_000_000_000 = mul-le-mul {n₂ = 1_000_000} {m₂ = 1_000} e.3 l.lot in
+      let tonnes : entry lists.lots i * b.lot.0 ≤ 1_000_000_000 = mul-le-mul {n₂ = 1_000_000} {m₂ = 1_000} e.3 l.lot in
       simp length-append
       (omega (
         arith,
         l.codes _ e.0,
         l.codes _ e.2,
-        decimal_most 1 (entry elevators i) (omega (arith, e.1)),
-        decimal_most 6 (entry lots i) (omega (arith, e.3)),
-        decimal_most 9 (entry lots i * b.lot.0) (omega (arith, tonnes)),
+        decimal_most 1 (entry lists.elevators i) (omega (arith, e.1)),
+        decimal_most 6 (entry lists.lots i) (omega (arith, e.3)),
+        decimal_most 9 (entry lists.lots i * b.lot.0) (omega (arith, tonnes)),
       ))
 
   -- a section's code and its lots, without the bytes that end them
-  pub lots_most : (i : ℕ) → i < b.held → length (section_at b i).code + length (decimal (entry delivered i)) + length (decimal (entry terminated i)) + length (decimal (entry lapsed i)) ≤ 37
+  pub lots_most : (i : ℕ) → i < b.held → length (section_at b i).code + length (decimal (entry lists.delivered i)) + length (decimal (entry lists.terminated i)) + length (decimal (entry lists.lapsed i)) ≤ 37
   lots_most i h =
       let e = l.section i h in
       omega (
         arith,
         l.codes i h,
-        decimal_most 9 (entry delivered i) (omega (arith, e.0)),
-        decimal_most 9 (entry terminated i) (omega (arith, e.1)),
-        decimal_most 9 (entry lapsed i) (omega (arith, e.2)),
+        decimal_most 9 (entry lists.delivered i) (omega (arith, e.0)),
+        decimal_most 9 (entry lists.terminated i) (omega (arith, e.1)),
+        decimal_most 9 (entry lists.lapsed i) (omega (arith, e.2)),
       )
 
   section_most : (i : ℕ) → i < b.held → length (section_row b lent i) ≤ 62
   unfolding section_row row
-  section_most i h = simp length-append (omega (arith, lots_most i h, signed_most 18 (entry_ℤ sums i) (l.section i h).3))
+  section_most i h = simp length-append (omega (arith, lots_most i h, signed_most 18 (entry_ℤ lent.sums i) (l.section i h).3))
 
-  pub listing_most_lem : length (listing b kept buyers elevators sellers lots delivered terminated lapsed sums) ≤ 22_465
+  pub listing_most_lem : length (listing_bytes b kept lent) ≤ 22_465
   unfolding listing_bytes
   listing_most_lem =
       simp length-append

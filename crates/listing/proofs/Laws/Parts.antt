@@ -1,5 +1,6 @@
 -- A text written part by part: what stands, and the parts that are left.
-use Rattle.numbers.proofs.Words.{ℕ, ◌+◌, ◌≤◌, ◌<◌, arith, ◌≡◌, refl, sym, ap, ◌∙◌, List, [], ◌∷◌, ◌++◌, append_assoc, append-nil, length, length-append, ℤ}
+use Rattle.numbers.proofs.Words.{ℕ, ◌+◌, ◌≤◌, ◌<◌, arith, ◌≡◌, refl, sym, ap, ◌∙◌, List, [], ◌∷◌, ◌++◌, append_assoc, append-nil, length, length-append, entry, entry_ℤ}
+use Rattle.rules.specs.File.{Lent}
 use Rattle.rules.specs.Listing.{row}
 use Rattle.numbers.specs.Text.{decimal, signed_decimal}
 use Rattle.listing.specs.Columns.{code_at, field, lots_fields, section_row_of}
@@ -64,13 +65,15 @@ module _ {was : List ℕ} {at : ℕ} {whole mid : List ℕ} {next : ℕ} where
   finished b = rw (b.parts, append-nil) b.laid
 
 -- a section's code and lots part by part, and a section's row with them as one part (01, Program, 1; 02, a, 4)
-module _ (codes : List ℕ) (i delivered terminated lapsed : ℕ) where
-  pub lots_parts : (end : ℕ) → lots_fields codes i delivered terminated lapsed end ≡ joined (field (code_at codes i) 32 ∷ field (decimal delivered) 32 ∷ field (decimal terminated) 32 ∷ field (decimal lapsed) end ∷ [])
-  lots_parts end =
+module _ (codes : List ℕ) (i : ℕ) where
+  pub lots_parts : (delivered terminated lapsed end : ℕ) → lots_fields codes i delivered terminated lapsed end ≡ joined (field (code_at codes i) 32 ∷ field (decimal delivered) 32 ∷ field (decimal terminated) 32 ∷ field (decimal lapsed) end ∷ [])
+  lots_parts delivered terminated lapsed end =
       ap (λ (last : List ℕ). field (code_at codes i) 32 ++ (field (decimal delivered) 32 ++ (field (decimal terminated) 32 ++ last))) (sym (append-nil (field (decimal lapsed) end)))
 
-  pub lots_row_lem : row (code_at codes i ∷ decimal delivered ∷ decimal terminated ∷ decimal lapsed ∷ []) ≡ lots_fields codes i delivered terminated lapsed 10
-  lots_row_lem = row_joined (code_at codes i ∷ decimal delivered ∷ decimal terminated ∷ decimal lapsed ∷ []) ∙ sym (lots_parts 10)
+  pub lots_row_lem : (delivered terminated lapsed : ℕ) → row (code_at codes i ∷ decimal delivered ∷ decimal terminated ∷ decimal lapsed ∷ []) ≡ lots_fields codes i delivered terminated lapsed 10
+  lots_row_lem delivered terminated lapsed = row_joined (code_at codes i ∷ decimal delivered ∷ decimal terminated ∷ decimal lapsed ∷ []) ∙ sym (lots_parts delivered terminated lapsed 10)
 
-  pub section_parts : (sum : ℤ) → section_row_of codes i delivered terminated lapsed sum ≡ joined (lots_fields codes i delivered terminated lapsed 32 ∷ field (signed_decimal sum) 10 ∷ [])
-  section_parts sum = row_joined (code_at codes i ∷ decimal delivered ∷ decimal terminated ∷ decimal lapsed ∷ signed_decimal sum ∷ []) ∙ sym (simp append_assoc)
+  pub section_parts : (lent : Lent) → section_row_of codes lent i ≡ joined (lots_fields codes i (entry lent.lists.delivered i) (entry lent.lists.terminated i) (entry lent.lists.lapsed i) 32 ∷ field (signed_decimal (entry_ℤ lent.sums i)) 10 ∷ [])
+  section_parts lent =
+      let ls = lent.lists in
+      row_joined (code_at codes i ∷ decimal (entry ls.delivered i) ∷ decimal (entry ls.terminated i) ∷ decimal (entry ls.lapsed i) ∷ signed_decimal (entry_ℤ lent.sums i) ∷ []) ∙ sym (simp append_assoc)

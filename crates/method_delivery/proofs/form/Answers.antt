@@ -13,6 +13,6 @@ pub returns-clause-pairs_value : goal.returns-clause-pairs_value
 returns-clause-pairs_value c =
     let a = c.args in
     -- sections and notices of the book have these columns, and what is left is theirs
-    let delivers : Delivers (held_sections a.b) (filed_notices a.b) a.codes.now a.positions.now a.keys.now a.selling.now a.stands.now a.stock.now c.keep.new.kept =
+    let delivers : Delivers (held_sections a.b) (filed_notices a.b) a.columns.codes.now a.columns.positions.now a.columns.keys.now a.notices.sellers.now a.notices.stands.now a.notices.lots.now c.keep.new.kept =
     record { columns = columns (facts _ c.requires.0) c.requires.2; filed = c.requires.2.filed; kept_is = c.keep.ensures.0 } in
     (c.form.ensures.pairs_value _ _ delivers, c.form.ensures.register_value _ _ delivers)

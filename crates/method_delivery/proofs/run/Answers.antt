@@ -1,16 +1,15 @@
 -- What the method leaves each section, then the lines formed of it, then what is kept and what lapses; all is written.
-use Rattle.numbers.proofs.Words.{ℕ, ◌≡◌, sym, ap, ap₂, subst, ◌∙◌, List, ◌++◌, take, drop, length, replicate, length-take-le, less, over}
+use Rattle.numbers.proofs.Words.{ℕ, ◌≡◌, sym, ap, ap₂, subst, ◌∙◌, List, ◌++◌, take, drop, length, replicate, length-take-le, less}
 use Rattle.numbers.proofs.Front.{noughts_front, Front, front_of}
 use Rattle.rules.specs.Book.{held_sections, filed_notices}
 use Rattle.rules.specs.Expiry.Call.{lapsed, delivered, expiry_written}
-use Rattle.rules.specs.Expiry.Passes.{Line, buyers_of, elevators_of, sellers_of, lots_of}
+use Rattle.rules.specs.Expiry.Passes.{Line}
+use Rattle.rules.specs.Lent.{lists_of}
 use Rattle.book_laws.proofs.Good.{facts}
 use Rattle.method_laws.specs.Columns.{Small}
 use Rattle.method_columns.proofs.Laws.{position_within}
-use Rattle.method_passes.specs.Formed.{lines_in}
 use Rattle.method_passes.proofs.Arrays.{lines_count}
-use Rattle.method_removal.specs.Removed.{kept_by}
-use Rattle.method_delivery.specs.Lent.{kept_for, remaining_of}
+use Rattle.method_delivery.specs.Lent.{kept_for, remaining_of, lines_over, sections_over}
 use Rattle.method_delivery.proofs.Book.{sections_held, terminated_is}
 use Rattle.method_delivery.proofs.Taken
 use Rattle.method_delivery.proofs.run.Goals as goal
@@ -70,9 +69,9 @@ returns-clause-pairs_value c =
     let lines_are = c.form-formed.ensures.pairs_value.1 in
     (c.form-formed.ensures.pairs_value.0, sym (lines_count register) ∙ ap length lines_are, c.take_out-standing.ensures.value ∙ ap length (Taken.kept_is book c.requires.b_value.2 register lines_are))
 
-pub returns-clause-lapsed_after : goal.returns-clause-lapsed_after
+pub returns-clause-lists_after : goal.returns-clause-lists_after
 unfolding expiry_written delivered
-returns-clause-lapsed_after c =
+returns-clause-lists_after c =
     let a = c.args in
     let b = a.b in
     let book = facts _ c.requires.b_value.0 in
@@ -84,16 +83,7 @@ returns-clause-lapsed_after c =
     let gone_is : take b.held (c.take_out-standing.new.gone ++ drop b.held (replicate 128 0)) ≡ lapsed (held_sections b) (filed_notices b) =
     gone_front.is ∙ c.take_out-standing.ensures.gone_after ∙ Taken.lapsed_is book c.requires.b_value.2 register lines_are in
     let kept_lines = Taken.kept_is book c.requires.b_value.2 register lines_are in
-    let columns : (column : List Line → List ℕ) (was : List ℕ) → over (column (kept_by a.participants.now (lines_in register))) was ≡ over (column (kept_for b)) was = λ column was. ap (λ (ls : List Line). over (column ls) was) kept_lines in
-    let onto : List ℕ → List ℕ → List ℕ = λ was lots. over lots was in
-    let registered = c.take_out-standing.ensures in
-    let sections = c.write_sections.ensures in
-    λ k. record {
-      buyers = (registered.buyers_after ∙ columns buyers_of _) k;
-      elevators = (registered.elevators_after ∙ columns elevators_of _) k;
-      sellers = (registered.sellers_after ∙ columns sellers_of _) k;
-      lots = (registered.lots_after ∙ columns lots_of _) k;
-      delivered = (sections.delivered_after ∙ ap (onto a.delivered.now) (ap₂ less kept_is gone_is)) k;
-      terminated = (sections.terminated_after ∙ ap (onto a.terminated.now) (terminated_is book c.requires.b_value.1 kept_is)) k;
-      lapsed = (sections.lapsed_after ∙ ap (onto a.lapsed.now) gone_is) k;
-    }
+    let lent = lists_of a.lists.now in
+    let registered : lists_of c.take_out-standing.new.lists ≡ lines_over (kept_for b) lent = c.take_out-standing.ensures.lists_after ∙ ap (λ (ls : List Line). lines_over ls lent) kept_lines in
+    c.write_sections.ensures.lists_after
+    ∙ λ k. sections_over (ap₂ less kept_is gone_is k) (terminated_is book c.requires.b_value.1 kept_is k) (gone_is k) (registered k)

@@ -12,7 +12,7 @@ write_register-requires c =
     let a = c.args in
     let standing = c.kept_lines-standing.result in
     let count_is : standing.count ≡ length (kept_by a.participants.now (lines_in a.g)) = sym (lines_count standing) ∙ ap length c.kept_lines-standing.ensures in
-    let room = c.requires.in_bounds in
+    let room = c.requires.room in
     (omega (arith, count_is, passing-length (λ (l : Line). not (one_by a.participants.now l)) (lines_in a.g), lines_count a.g, c.requires.known.0.few), room.0, room.1, room.2, room.3)
 
 pub returns-clause-value : goal.returns-clause-value

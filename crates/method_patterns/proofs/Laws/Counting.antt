@@ -1,21 +1,21 @@
 -- Patterns counted one after the other by how they end.
 use Rattle.numbers.proofs.Words.{ℕ, ◌+◌, ◌≤◌, add-one, arith, ◌≡◌, refl, sym, ap, ap₂, subst, ◌∙◌, Bool, true, false, not, ◌||◌, eqb, eqb-true, eqb-false, eq-eqb, ne_eqb, ◌and◌, counted, gathered, many}
 use Rattle.numbers.proofs.Counts.{one, many_more, many_most}
-use Rattle.method_patterns.specs.declared.endings.{Counts.Counts}
+use Rattle.rules.specs.declared.book.{Failures.Failures}
 use Rattle.method_patterns.specs.Endings.{all_of, none_of, some_of, Counted}
 
-abbrev more : Counts → ℕ → ℕ → Counts
+abbrev more : Failures → ℕ → ℕ → Failures
 more c own lots = record { full = c.full + one (all_of own lots); part = c.part + one (some_of own lots); none = c.none + one (none_of own lots) }
 
 -- the ending of a pattern adds one to its own count alone (02, n, 2 and 3)
-module _ (c : Counts) (own lots : ℕ) where
-  abbrev more_by : Bool → Bool → Counts
+module _ (c : Failures) (own lots : ℕ) where
+  abbrev more_by : Bool → Bool → Failures
   more_by all nothing = record { full = c.full + one all; part = c.part + one (not (all || nothing)); none = c.none + one nothing }
 
   made : {full part none : ℕ} (t n : Bool) → all_of own lots ≡ t → none_of own lots ≡ n
       → full ≡ c.full + one t → part ≡ c.part + one (not (t || n)) → none ≡ c.none + one n → record { full = full; part = part; none = none } ≡ more c own lots
   made t n all nothing f p z =
-      let counts : ℕ → ℕ → ℕ → Counts = λ full part none. record { full = full; part = part; none = none } in
+      let counts : ℕ → ℕ → ℕ → Failures = λ full part none. record { full = full; part = part; none = none } in
       (λ k. counts (f k) (p k) (z k)) ∙ sym (λ k. more_by (all k) (nothing k))
 
   not_none : (t : Bool) → eqb lots 0 ≡ t → (t ≡ true → own ≡ 0) → none_of own lots ≡ false
@@ -37,18 +37,18 @@ pub counted_none : (own : ℕ) (lots : ℕ → ℕ) → Counted own lots 0 (reco
 unfolding many counted gathered
 counted_none own lots = record { full = refl; part = refl; none = refl }
 
-module _ {own : ℕ} {lots : ℕ → ℕ} {p : ℕ} {c : Counts} (now : Counted own lots p c) where
+module _ {own : ℕ} {lots : ℕ → ℕ} {p : ℕ} {c : Failures} (now : Counted own lots p c) where
   -- the next one
   one_more : (test : ℕ → Bool) (n x : ℕ) → n ≡ many p (λ (q : ℕ). test (lots q)) → x ≡ lots p → n + one (test x) ≡ many (p + 1) (λ (q : ℕ). test (lots q))
   one_more test n x was is =
       omega (arith, was, ap (λ (y : ℕ). one (test y)) is, many_more p (λ (q : ℕ). test (lots q)), ap (λ (m : ℕ). many m (λ (q : ℕ). test (lots q))) (add-one p))
 
-  pub counted_next : {next : Counts} (x : ℕ) → x ≡ lots p → next ≡ more c own x → Counted own lots (p + 1) next
+  pub counted_next : {next : Failures} (x : ℕ) → x ≡ lots p → next ≡ more c own x → Counted own lots (p + 1) next
   counted_next x is made =
       record {
-        full = ap (λ (n : Counts). n.full) made ∙ one_more (all_of own) c.full x now.full is;
-        part = ap (λ (n : Counts). n.part) made ∙ one_more (some_of own) c.part x now.part is;
-        none = ap (λ (n : Counts). n.none) made ∙ one_more (none_of own) c.none x now.none is;
+        full = ap (λ (n : Failures). n.full) made ∙ one_more (all_of own) c.full x now.full is;
+        part = ap (λ (n : Failures). n.part) made ∙ one_more (some_of own) c.part x now.part is;
+        none = ap (λ (n : Failures). n.none) made ∙ one_more (none_of own) c.none x now.none is;
       }
 
   pub counted_all : {n : ℕ} → p ≡ n → Counted own lots n c

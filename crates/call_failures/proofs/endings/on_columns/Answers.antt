@@ -31,26 +31,26 @@ module _ {b : Book} {codes : List ℕ} {positions : List ℤ} {keys selling stan
 
 -- the lots of each section's notices
 module _ (c : After-noticed) where
-  noticed_front : Front (length (c.args.codes.now)) noughts c.noticed.new.sums
+  noticed_front : Front (length (c.args.columns.codes.now)) noughts c.noticed.new.sums
   noticed_front = front_of _ _ _ (few c.requires.b_value.0 c.requires.b_value.2) c.noticed.auto.sums
 
-  noticed_is : take (length (c.args.codes.now)) (c.noticed.new.sums ++ drop (length (c.args.codes.now)) noughts) ≡ listed c.args.b.held (noticed (filed_notices c.args.b))
+  noticed_is : take (length (c.args.columns.codes.now)) (c.noticed.new.sums ++ drop (length (c.args.columns.codes.now)) noughts) ≡ listed c.args.b.held (noticed (filed_notices c.args.b))
   noticed_is =
       let ns = filed_notices c.args.b in
       let columns = c.requires.b_value.2 in
       noticed_front.is ∙ c.noticed.ensures ns columns.filed.sellers_are columns.filed.lots_are ∙ ap (λ (n : ℕ). listed n (noticed ns)) (long c.requires.b_value.0 columns ∙ held c.requires.b_value.0 columns)
 
 -- what fails as marks stand, and with the condition met
-fails_front : (c : After-failing) → Front (length (c.args.codes.now)) noughts c.failing.new.lots
+fails_front : (c : After-failing) → Front (length (c.args.columns.codes.now)) noughts c.failing.new.lots
 fails_front c = front_of _ _ _ (few c.requires.b_value.0 c.requires.b_value.2) c.failing.auto.lots
 
-still_front : (c : After-failing-2) → Front (length (c.args.codes.now)) noughts c.failing-2.new.lots
+still_front : (c : After-failing-2) → Front (length (c.args.columns.codes.now)) noughts c.failing-2.new.lots
 still_front c = front_of _ _ _ (few c.requires.b_value.0 c.requires.b_value.2) c.failing-2.auto.lots
 
 -- what each section has; so the columns stand behind the book, with its marks
-module _ (c : After-magnitudes) (failed : Front (length (c.args.codes.now)) noughts c.failing.new.lots) (met : Front (length (c.args.codes.now)) noughts c.failing-2.new.lots) where
+module _ (c : After-magnitudes) (failed : Front (length (c.args.columns.codes.now)) noughts c.failing.new.lots) (met : Front (length (c.args.columns.codes.now)) noughts c.failing-2.new.lots) where
   abbrev many : ℕ
-  many = length (c.args.codes.now)
+  many = length (c.args.columns.codes.now)
 
   own_front : Front many noughts c.magnitudes.new.out
   own_front = front_of _ _ _ (few c.requires.b_value.0 c.requires.b_value.2) c.magnitudes.auto.out
@@ -67,7 +67,7 @@ module _ (c : After-magnitudes) (failed : Front (length (c.args.codes.now)) noug
   own_is : own ≡ map size (held_sections c.args.b)
   own_is = own_front.is ∙ c.magnitudes.ensures ∙ ap (map nat_abs) c.requires.b_value.2.positions_are ∙ map-map nat_abs position_of (held_sections c.args.b)
 
-  stands : Stands c.args.b (c.args.persons.now) (c.args.codes.now) (c.args.positions.now) (c.args.keys.now) (c.args.selling.now) (c.args.stands.now) (c.args.stock.now) fails
+  stands : Stands c.args.b (c.args.persons.now) (c.args.columns.codes.now) (c.args.columns.positions.now) (c.args.columns.keys.now) (c.args.notices.sellers.now) (c.args.notices.stands.now) (c.args.notices.lots.now) fails
   stands = record { good_book = c.requires.b_value.0; columns = c.requires.b_value.2; persons_are = c.requires.b_value.3; failed_are = failed.is ∙ c.failing.ensures ∙ marks_fail _ (facts _ c.requires.b_value.0) }
 
   marks : Marks c.args.b fails own still (c.args.named.now)

@@ -1,15 +1,13 @@
-use Rattle.numbers.proofs.Words.{arith, sym, ◌∙◌, leb, le-leb, lt-leb}
-use Rattle.numbers.proofs.Lists.{has, some_next, some_stop, some_end}
+use Rattle.numbers.proofs.Words.{◌≡◌, ◌∙◌, leb, rules}
+use Rattle.std.proofs.Common.{tests}
+use Rattle.std.specs.List.{list_any}
+use Rattle.std.proofs.lemmas.Iterator.{YieldsList-from_slice}
+use Rattle.std.proofs.lemmas.Iterator.Search.{any_from_yields_List}
+use Rattle.call_failures.proofs.Laws.{any_some}
 use Rattle.call_failures.proofs.names.some_unknown.Goals as goal
-
-pub returns-then-held-section : goal.returns-then-held-section
-returns-then-held-section c =
-    sym (c.loop-i.invariant ∙ some_stop (has (c.args.named.now) c.loop-i.i 0 (omega arith)) (leb c.args.held) (le-leb _ _ c.if-held-section.true))
-
-pub loop-i-preserved : goal.loop-i-preserved
-loop-i-preserved c =
-    c.loop-i.invariant ∙ some_next (has (c.args.named.now) c.loop-i.i 0 (omega arith)) (leb c.args.held) (lt-leb _ _ c.if-held-section.false)
 
 pub returns : goal.returns
 returns c =
-    sym (c.loop-i.invariant ∙ some_end (c.args.named.now) c.loop-i.i (omega arith) (leb c.args.held))
+    let named = c.args.named.now in
+    let any : c.any.result ≡ list_any (leb c.args.held) named = any_from_yields_List (leb c.args.held) _ _ c.any.result c.any.ensures.ran (YieldsList-from_slice named cc) (λ x r q k. search (rules, tests)) in
+    any ∙ any_some (leb c.args.held) named

@@ -7,9 +7,9 @@ pub loop-i-init : goal.loop-i-init
 loop-i-init c = filled_none _ _
 
 pub loop-i-preserved : goal.loop-i-preserved
-loop-i-preserved c = filled_next c.loop-i.invariant (omega (arith, c.loop-i-test.true, c.requires)) _ refl
+loop-i-preserved c = filled_next c.loop-i.invariant (omega (arith, c.requires)) _ refl
 
 pub returns : goal.returns
 returns c =
     let named = c.args.named.now in
-    filled_end c.loop-i.invariant (omega (arith, c.loop-i-test.false, c.requires)) (length named) c.requires ∙ listed_entries named 0
+    filled_end c.loop-i.invariant (omega (arith, c.requires)) (length named) c.requires ∙ listed_entries named 0

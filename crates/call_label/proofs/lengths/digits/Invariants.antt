@@ -1,9 +1,5 @@
-use Rattle.numbers.proofs.Words.{◌-◌}
 use Rattle.call_label.proofs.Laws.Digits.{Passed}
 use Rattle.call_label.proofs.lengths.digits.Given as goal
 
 abbrev pub invariant-loop-more : goal.invariant-loop-more
 invariant-loop-more l = Passed l.n l.more
-
-abbrev pub decreases-loop-more : goal.decreases-loop-more
-decreases-loop-more l = 20 - l.more

@@ -1,9 +1,5 @@
-use Rattle.numbers.proofs.Words.{◌-◌, length}
 use Rattle.failures.proofs.Laws.Places.{NoneBefore}
 use Rattle.failures.proofs.words.place_of.Given as goal
 
 abbrev pub invariant-loop-i : goal.invariant-loop-i
 invariant-loop-i l = NoneBefore l.keys l.key l.i
-
-abbrev pub decreases-loop-i : goal.decreases-loop-i
-decreases-loop-i l = length l.keys - l.i

@@ -1,18 +1,15 @@
 use Rattle.numbers.proofs.Words.{arith, sym, ◌∙◌, eqb}
 use Rattle.numbers.proofs.Lists.{has, apart_next, apart_stop, apart_end}
+use Rattle.judge.proofs.Laws.{later_some}
 use Rattle.judge.proofs.keys.apart.Goals as goal
 
-pub returns-then-among : goal.returns-then-among
-returns-then-among c =
-    let at = c in
-    sym (at.loop-i.invariant ∙ apart_stop (has (at.args.numbers.now) at.loop-i.i 0 (omega arith)) eqb (sym c.among.ensures ∙ c.if-among.true))
+pub returns-then-contains : goal.returns-then-contains
+returns-then-contains c =
+    sym (c.loop-i.invariant ∙ apart_stop (has (c.args.numbers.now) c.loop-i.i 0 (omega arith)) eqb (sym (c.contains.ensures.value ∙ later_some _ c.loop-i.i c.args.numbers.now) ∙ c.if-contains.true))
 
 pub loop-i-preserved : goal.loop-i-preserved
 loop-i-preserved c =
-    let at = c in
-    at.loop-i.invariant ∙ apart_next (has (at.args.numbers.now) at.loop-i.i 0 (omega arith)) eqb (sym c.among.ensures ∙ c.if-among.false)
+    c.loop-i.invariant ∙ apart_next (has (c.args.numbers.now) c.loop-i.i 0 (omega arith)) eqb (sym (c.contains.ensures.value ∙ later_some _ c.loop-i.i c.args.numbers.now) ∙ c.if-contains.false)
 
 pub returns : goal.returns
-returns c =
-    let at = c in
-    sym (at.loop-i.invariant ∙ apart_end (at.args.numbers.now) at.loop-i.i (omega arith) eqb)
+returns c = sym (c.loop-i.invariant ∙ apart_end (c.args.numbers.now) c.loop-i.i (omega arith) eqb)

@@ -1,8 +1,5 @@
-use Rattle.numbers.proofs.Words.{◌-◌, ◌≡◌, eqb, length, drop, apart}
+use Rattle.numbers.proofs.Words.{◌≡◌, eqb, drop, apart}
 use Rattle.judge.proofs.keys.apart.Given as goal
 
 abbrev pub invariant-loop-i : goal.invariant-loop-i
 invariant-loop-i l = apart eqb l.numbers ≡ apart eqb (drop l.i l.numbers)
-
-abbrev pub decreases-loop-i : goal.decreases-loop-i
-decreases-loop-i l = length l.numbers - l.i

@@ -1,4 +1,3 @@
-use Rattle.numbers.proofs.Words.{◌-◌}
 use Rattle.numbers.proofs.Keys.{Walked}
 use Rattle.rules.specs.Book.{filed_notices, notice_good}
 use Rattle.judge.proofs.Laws.{notice_key}
@@ -6,6 +5,3 @@ use Rattle.judge.proofs.notices.notices_good.Given as goal
 
 abbrev pub invariant-loop-i : goal.invariant-loop-i
 invariant-loop-i l = Walked (notice_good l.b.held) notice_key (filed_notices l.b) l.initial.places l.places l.i
-
-abbrev pub decreases-loop-i : goal.decreases-loop-i
-decreases-loop-i l = l.filed - l.i

@@ -2,20 +2,11 @@ use Rattle.numbers.proofs.Lists.{has}
 use Rattle.lastday.proofs.Laws.Feeding.{feeding_start, feeding_room, feeding_next}
 use Rattle.lastday.proofs.feed.piece.Goals as goal
 
-pub loop-i-init : goal.loop-i-init
-loop-i-init c =
-    let start = c in
-    feeding_start _ _ _ _ start.requires.0 start.requires.1 start.requires.2
+pub loop-b-init : goal.loop-b-init
+loop-b-init c = feeding_start _ _ _ _ c.requires.0 c.requires.1 c.requires.2
 
 pub byte-fed-requires : goal.byte-fed-requires
-byte-fed-requires c =
-    let in-loop = c in
-    let at = in-loop in
-    (at.loop-i.invariant.fed.few, at.loop-i.invariant.fed.long, feeding_room at.loop-i.invariant (has (c.args.bytes.now) at.loop-i.i 0 in-loop.loop-i-test.true))
+byte-fed-requires c = (c.loop-b.invariant.fed.few, c.loop-b.invariant.fed.long, feeding_room c.loop-b.invariant (has c.args.bytes.now c.loop-b.b-index 0 c.loop-b-test.true))
 
-pub loop-i-preserved : goal.loop-i-preserved
-loop-i-preserved c =
-    let byte = c in
-    let in-loop = byte in
-    let at = in-loop in
-    feeding_next at.loop-i.invariant (has (c.args.bytes.now) at.loop-i.i 0 in-loop.loop-i-test.true) byte.byte-fed.ensures
+pub loop-b-preserved : goal.loop-b-preserved
+loop-b-preserved c = feeding_next c.loop-b.invariant (has c.args.bytes.now c.loop-b.b-index 0 c.loop-b-test.true) c.byte-fed.ensures

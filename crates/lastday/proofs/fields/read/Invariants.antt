@@ -1,9 +1,6 @@
-use Rattle.numbers.proofs.Words.{◌+◌, ◌-◌, length}
-use Rattle.lastday.proofs.Laws.Reading.{Reading}
+use Rattle.numbers.proofs.Words.{◌≡◌, length}
+use Rattle.lastday.proofs.Laws.Fields.{Reading}
 use Rattle.lastday.proofs.fields.read.Given as goal
 
-abbrev pub invariant-loop-from : goal.invariant-loop-from
-invariant-loop-from l = Reading l.row l.numbers l.from l.count
-
-abbrev pub decreases-loop-from : goal.decreases-loop-from
-decreases-loop-from l = length l.row + 1 - l.from
+abbrev pub invariant-loop-field : goal.invariant-loop-field
+invariant-loop-field l = (l.count ≡ length l.yielded) × Reading l.row l.numbers l.count

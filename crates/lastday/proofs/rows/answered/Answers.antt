@@ -1,26 +1,16 @@
+use Rattle.numbers.proofs.Words.{ap}
+use Rattle.rules.specs.Answers.{numbered}
 use Rattle.lastday.proofs.Laws.Answers.{on_room, on_laid, refused_room, refused_laid}
 use Rattle.lastday.proofs.rows.answered.Goals as goal
 
 pub number-requires : goal.number-requires
-number-requires c =
-    let told = c in
-    let start = told in
-    on_room told.in-On.is c.number_of-number.ensures start.args.at start.requires
+number-requires c = on_room (ap numbered c.in-Ok.is) c.number_of-number.ensures c.args.at c.requires
 
 pub refusal-requires : goal.refusal-requires
-refusal-requires c =
-    let told = c in
-    let start = told in
-    refused_room told.in-Refused.is start.args.at start.requires
+refusal-requires c = rw c.number_of-number-in-Err.ensures (refused_room (ap numbered c.in-Err.is) c.args.at c.requires)
 
-pub returns-in-On : goal.returns-in-On
-returns-in-On c =
-    let number = c in
-    let told = number in
-    on_laid told.in-On.is number.number_of-number.ensures number.number.ensures
+pub returns-in-Ok : goal.returns-in-Ok
+returns-in-Ok c = on_laid (ap numbered c.in-Ok.is) c.number_of-number.ensures c.number.ensures
 
-pub returns-in-Refused : goal.returns-in-Refused
-returns-in-Refused c =
-    let refusal = c in
-    let told = refusal in
-    refused_laid told.in-Refused.is refusal.refusal.ensures
+pub returns-in-Err : goal.returns-in-Err
+returns-in-Err c = refused_laid (ap numbered c.in-Err.is) (rw c.number_of-number-in-Err.ensures at c.refusal.ensures)

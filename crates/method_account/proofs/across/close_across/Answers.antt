@@ -14,7 +14,7 @@ use Rattle.method_account.proofs.across.close_across.Goals as goal
 use Rattle.method_account.proofs.across.close_across.Goals.{After-left_open-d, After-less}
 
 -- what step 2 left is lent whole, and what is kept of it stands in its front
-kept_front : (c : After-less) → Front (length (c.args.codes.now)) c.args.before.left c.less.new.lots
+kept_front : (c : After-less) → Front (length (c.args.columns.codes.now)) c.args.before.left c.less.new.lots
 kept_front c =
     let left_places : length c.args.before.left ≡ 128 = search rules in
     front_of _ _ _ (omega (arith, left_places, c.requires.0.few)) c.less.auto.lots
@@ -22,9 +22,9 @@ kept_front c =
 -- D is every D(c) with what its code gave
 module _ (c : After-left_open-d) where
   abbrev many : ℕ
-  many = length (c.args.codes.now)
+  many = length (c.args.columns.codes.now)
 
-  d_is : {ss : List Section} {failed : List ℕ} → Columns ss (c.args.codes.now) (c.args.positions.now) (c.args.keys.now) → InCodesOf many ss failed c.args.before
+  d_is : {ss : List Section} {failed : List ℕ} → Columns ss (c.args.columns.codes.now) (c.args.columns.positions.now) (c.args.columns.keys.now) → InCodesOf many ss failed c.args.before
       → c.left_open-d.result ≡ d_of ss failed
   unfolding d_overall
   d_is {ss} {failed} columns is =
@@ -39,9 +39,9 @@ pub returns : goal.returns
 returns c =
     let opened = (goal.at.returns c).After-left_open-d in
     let kept = kept_front (goal.at.returns c).After-less in
-    let left = take (length (c.args.codes.now)) c.args.before.left in
+    let left = take (length (c.args.columns.codes.now)) c.args.before.left in
     let left_places : length c.args.before.left ≡ 128 = search rules in
-    let left_long = length-take-le (length (c.args.codes.now)) c.args.before.left (omega (arith, left_places, c.requires.0.few)) in record {
+    let left_long = length-take-le (length (c.args.columns.codes.now)) c.args.before.left (omega (arith, left_places, c.requires.0.few)) in record {
       across_of = λ ss failed columns is.
           let d : to_z w64 (of_z w64 c.left_open-d.result) ≡ d_of ss failed = to_z-of_z {w = w64} (record { sfits = search }) ∙ d_is opened columns is in
           let step = gives_same false ss (may_give_across ss) (given_across ss) c.over_codes-giving.result left_long d is.left_are (c.over_codes-giving.ensures ss columns) in
@@ -51,5 +51,5 @@ returns c =
             gives = step;
             kept_are = kept.is ∙ c.less.ensures ∙ ap₂ less is.left_are step.given_are;
           };
-      small = subst Small (sym (kept.is ∙ c.less.ensures)) (left_small 1_000_000 left (take (length (c.args.codes.now)) c.over_codes-giving.result.given) c.requires.1.left_small);
+      small = subst Small (sym (kept.is ∙ c.less.ensures)) (left_small 1_000_000 left (take (length (c.args.columns.codes.now)) c.over_codes-giving.result.given) c.requires.1.left_small);
     }

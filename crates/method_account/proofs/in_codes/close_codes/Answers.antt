@@ -35,7 +35,7 @@ module _ (c : After-less) where
   abbrev sound : List ℕ
   sound = c.less.new.lots ++ drop many sizes
 
-  sound_is : {ss : List Section} → Columns ss (c.args.codes.now) (c.args.positions.now) (c.args.keys.now) → take many sound ≡ sound_of ss (c.args.failed.now)
+  sound_is : {ss : List Section} → Columns ss (c.args.columns.codes.now) (c.args.columns.positions.now) (c.args.columns.keys.now) → take many sound ≡ sound_of ss (c.args.failed.now)
   sound_is {ss} columns =
       sound_front.is
       ∙ c.less.ensures
@@ -48,7 +48,7 @@ module _ (c : After-less) where
         ap (λ (xs : List ℕ). entry xs i) (sound_front.is ∙ c.less.ensures),
         less_at (take many sizes) (c.args.failed.now) i,
         ap (λ (xs : List ℕ). entry xs i) (sized.is ∙ c.magnitudes.ensures),
-        sizes_small 1_000_000 (c.args.positions.now) c.requires.0.position i,
+        sizes_small 1_000_000 (c.args.columns.positions.now) c.requires.0.position i,
       )
 
 pub returns : goal.returns

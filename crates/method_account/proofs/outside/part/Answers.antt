@@ -12,7 +12,7 @@ use Rattle.method_account.proofs.outside.part.Goals as goal
 pub returns : goal.returns
 unfolding Outside.outside
 returns c =
-    let many = length (c.args.codes.now) in
+    let many = length (c.args.columns.codes.now) in
     let array = c.args.kept in
     let kept = take many array in
     let far = c.by_code-giving.result.given in

@@ -13,7 +13,7 @@ use Rattle.method_delivery.proofs.Book.{held_columns}
 use Rattle.method_account.specs.Passes.{outside_of, Far}
 use Rattle.method_account.proofs.Taking as taking
 use Rattle.method_account.proofs.passes.outside_pass.Goals as goal
-use Rattle.method_account.proofs.passes.outside_pass.Goals.{After-copy-2, After-copy}
+use Rattle.method_account.proofs.passes.outside_pass.Goals.{After-copy_from_slice-2, After-copy_from_slice}
 
 abbrev none : List ℕ
 none = replicate 256 0
@@ -42,68 +42,68 @@ module _ {positions : List ℤ} {keys selling stands far beyond : List ℕ} {b :
   filed_long = length-take-le _ none few_filed
 
 -- the lots that go outside
-first_front : (c : After-copy) → Front (length (c.args.far.now)) noughts c.copy.new.to
-first_front c = front_of _ _ _ (columns_held c.requires.is).few c.copy.auto.to
+first_front : (c : After-copy_from_slice) → Front (length (c.args.far.now)) noughts c.copy_from_slice.new.self
+first_front c = front_of _ _ _ (columns_held c.requires.is).few c.copy_from_slice.auto.self
 
 -- and of the long ones among them; what is drawn
-module _ (c : After-copy-2) where
+module _ (c : After-copy_from_slice-2) where
   abbrev many : ℕ
   many = length (c.args.far.now)
 
   abbrev filed : ℕ
   filed = length (c.args.beyond.now)
 
-  bought : Front many noughts c.copy.new.to
-  bought = front_of _ _ _ (columns_held c.requires.is).few c.copy.auto.to
+  bought : Front many noughts c.copy_from_slice.new.self
+  bought = front_of _ _ _ (columns_held c.requires.is).few c.copy_from_slice.auto.self
 
-  buyers_front : Front many (c.copy.new.to ++ drop many noughts) c.keep_long.new.lots
+  buyers_front : Front many (c.copy_from_slice.new.self ++ drop many noughts) c.keep_long.new.lots
   buyers_front = front_of _ _ _ bought.fits c.keep_long.auto.lots
 
   abbrev buyers : List ℕ
-  buyers = c.keep_long.new.lots ++ drop many (c.copy.new.to ++ drop many noughts)
+  buyers = c.keep_long.new.lots ++ drop many (c.copy_from_slice.new.self ++ drop many noughts)
 
-  drawn_front : Front filed none c.copy-2.new.to
-  drawn_front = front_of _ _ _ (few_filed c.requires.is) c.copy-2.auto.to
+  drawn_front : Front filed none c.copy_from_slice-2.new.self
+  drawn_front = front_of _ _ _ (few_filed c.requires.is) c.copy_from_slice-2.auto.self
 
   abbrev drawn : List ℕ
-  drawn = c.copy-2.new.to ++ drop filed none
+  drawn = c.copy_from_slice-2.new.self ++ drop filed none
 
   module _ (b : Book) (is : Far (c.args.positions.now) (c.args.keys.now) (c.args.selling.now) (c.args.stands.now) (c.args.far.now) (c.args.beyond.now) b) where
     buys : take many buyers ≡ (outside_of b).buyers
     buys =
         buyers_front.is
         ∙ c.keep_long.ensures
-        ∙ ap (long_lots (c.args.positions.now)) (bought.is ∙ c.copy.ensures ∙ is.far_are)
+        ∙ ap (long_lots (c.args.positions.now)) (bought.is ∙ c.copy_from_slice.ensures.after ∙ is.far_are)
         ∙ taking.bought_outside (good_book is) is.columns
 
     draws : take filed drawn ≡ (outside_of b).drawn
     unfolding Passes.outside_pass
-    draws = drawn_front.is ∙ c.copy-2.ensures ∙ is.drawn_are
+    draws = drawn_front.is ∙ c.copy_from_slice-2.ensures.after ∙ is.drawn_are
 
 pub slice_bounds-buyers-end : goal.slice_bounds-buyers-end
 slice_bounds-buyers-end c = (columns_held c.requires.is).few
 
-pub slice_bounds-copy-end : goal.slice_bounds-copy-end
-slice_bounds-copy-end c = sym (long c.requires.is)
+pub slice_bounds-copy_from_slice-end : goal.slice_bounds-copy_from_slice-end
+slice_bounds-copy_from_slice-end c = sym (long c.requires.is)
 
-pub copy-requires : goal.copy-requires
-copy-requires c = long c.requires.is
+pub copy_from_slice-requires : goal.copy_from_slice-requires
+copy_from_slice-requires c = long c.requires.is
 
 pub keep_long-requires : goal.keep_long-requires
-keep_long-requires c = (columns_held c.requires.is).positions_long ∙ sym (first_front (goal.at.keep_long-requires c).After-copy).long
+keep_long-requires c = (columns_held c.requires.is).positions_long ∙ sym (first_front (goal.at.keep_long-requires c).After-copy_from_slice).long
 
 pub slice_bounds-drawn-end : goal.slice_bounds-drawn-end
 slice_bounds-drawn-end c = few_filed c.requires.is
 
-pub slice_bounds-copy-end-2 : goal.slice_bounds-copy-end-2
-slice_bounds-copy-end-2 c = sym (filed_long c.requires.is)
+pub slice_bounds-copy_from_slice-end-2 : goal.slice_bounds-copy_from_slice-end-2
+slice_bounds-copy_from_slice-end-2 c = sym (filed_long c.requires.is)
 
-pub copy-requires-2 : goal.copy-requires-2
-copy-requires-2 c = filed_long c.requires.is
+pub copy_from_slice-requires-2 : goal.copy_from_slice-requires-2
+copy_from_slice-requires-2 c = filed_long c.requires.is
 
 pub stages-stages-requires : goal.stages-stages-requires
 stages-stages-requires c =
-    let at = (goal.at.stages-stages-requires c).After-copy-2 in
+    let at = (goal.at.stages-stages-requires c).After-copy_from_slice-2 in
     let b = c.requires.book in
     let is = c.requires.is in
     let good = good_book is in
@@ -116,7 +116,7 @@ stages-stages-requires c =
 
 pub returns : goal.returns
 returns c = λ b is.
-    let at = (goal.at.returns c).After-copy-2 in
+    let at = (goal.at.returns c).After-copy_from_slice-2 in
     let good = good_book is in
     let many = length (c.args.far.now) in
     let filed = length (c.args.beyond.now) in

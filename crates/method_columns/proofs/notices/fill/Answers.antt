@@ -21,7 +21,7 @@ pub loop-k-preserved : goal.loop-k-preserved
 loop-k-preserved c = (
   filled_next c.loop-k.invariant.0 (omega arith) _ refl,
   filled_next c.loop-k.invariant.1 (omega arith) _ refl,
-  filled_next c.loop-k.invariant.2 (omega arith) c.size.result (c.size.ensures ∙ read_as nat_abs (notice_at c.args.b c.loop-k.k).lots.0 search),
+  filled_next c.loop-k.invariant.2 (omega arith) c.unsigned_abs.result (c.unsigned_abs.ensures.value ∙ read_as nat_abs (notice_at c.args.b c.loop-k.k).lots.0 search),
 )
 
 pub returns-clause-sellers_after : goal.returns-clause-sellers_after

@@ -1,10 +1,7 @@
 -- The loop's invariant: the first i entries are those of `from`.
-use Rattle.numbers.proofs.Words.{◌-◌, ◌≤◌, entry}
+use Rattle.numbers.proofs.Words.{entry}
 use Rattle.numbers.proofs.Filled.{Filled}
 use Rattle.method_delivery.proofs.written.small_lots.Given as goal
 
 abbrev pub invariant-loop-i : goal.invariant-loop-i
-invariant-loop-i l = (l.i ≤ l.count) × Filled (entry l.from) l.initial.to l.to l.i
-
-abbrev pub decreases-loop-i : goal.decreases-loop-i
-decreases-loop-i l = l.count - l.i
+invariant-loop-i l = Filled (entry l.from) l.initial.to l.to l.i

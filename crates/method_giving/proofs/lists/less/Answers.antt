@@ -8,5 +8,5 @@ loop-i-init c = filled_none _ c.args.lots.now
 pub loop-i-preserved : goal.loop-i-preserved
 loop-i-preserved c =
     let a = c.args in
-    filled_next c.loop-i.invariant (omega arith) c.left.result
-    (c.left.ensures ∙ ap (λ (n : ℕ). n - entry a.taken.now c.loop-i.i) (filled_here c.loop-i.invariant (omega arith) 0))
+    filled_next c.loop-i.invariant (omega arith) c.saturating_sub.result
+    (c.saturating_sub.ensures ∙ ap (λ (n : ℕ). n - entry a.taken.now c.loop-i.i) (filled_here c.loop-i.invariant (omega arith) 0))

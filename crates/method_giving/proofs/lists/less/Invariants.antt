@@ -5,6 +5,3 @@ use Rattle.method_giving.proofs.lists.less.Given as goal
 
 abbrev pub invariant-loop-i : goal.invariant-loop-i
 invariant-loop-i l = Filled (λ (j : ℕ). entry l.initial.lots j - entry l.taken j) l.initial.lots l.lots l.i
-
-abbrev pub decreases-loop-i : goal.decreases-loop-i
-decreases-loop-i l = l.all - l.i

@@ -8,6 +8,6 @@ loop-i-preserved c =
     let a = c.args in
     let i = c.loop-i.i in (
       search rules,
-      ap₂ (λ (xs : List ℕ) (n : ℕ). set xs i n) c.loop-i.invariant.1 (c.size.ensures ∙ ap nat_abs (read_back w64 (entry_ℤ a.numbers.now i) (search rules)))
+      ap₂ (λ (xs : List ℕ) (n : ℕ). set xs i n) c.loop-i.invariant.1 (c.unsigned_abs.ensures.value ∙ ap nat_abs (read_back w64 (entry_ℤ a.numbers.now i) (search rules)))
           ∙ written_next nat_abs a.out.now (has a.numbers.now i (pos 0) c.loop-i-test.true) (omega arith),
     )

@@ -1,15 +1,27 @@
-use Rattle.numbers.proofs.Words.{ℕ, ◌+◌, ◌<◌, arith, ◌≡◌, ap, List, length, drop, drop_of_length-le, entry, gathered, total}
-use Rattle.numbers.proofs.Lists.{has, from_here}
+use Rattle.numbers.proofs.Words.{rules, ℕ, suc, ◌*◌, ◌^◌, ◌≤◌, ◌<◌, arith, ◌≡◌, refl, sym, ◌∙◌, List, [], ◌∷◌, length, entry, gathered, total}
+use Rattle.std.specs.Prelude.{sum}
+use Rattle.std.proofs.lemmas.List.Recursion.{is_sum_by}
 use Rattle.method_giving.proofs.lists.sum.Goals as goal
 
--- what is left is the next entry and the rest
-next : (lots : List ℕ) (i : ℕ) → i < length lots → total (drop i lots) ≡ entry lots i + total (drop (i + 1) lots)
+-- the sum of the definitions is the library's
+total_sum : (xs : List ℕ) → total xs ≡ sum xs
 unfolding gathered
-next lots i here = ap total (from_here (has lots i 0 here))
+total_sum xs = is_sum_by total (λ (x : ℕ). x) refl (λ x ys. refl) xs
 
-pub loop-i-preserved : goal.loop-i-preserved
-loop-i-preserved c = omega (arith, c.requires.1 c.loop-i.i, next c.args.lots.now c.loop-i.i c.loop-i-test.true)
+-- of small numbers it is small
+total_small : (most : ℕ) (xs : List ℕ) → ((i : ℕ) → entry xs i ≤ most) → total xs ≤ most * length xs
+unfolding gathered
+total_small most [] h = omega arith
+total_small most (x ∷ xs) h = omega (arith, h 0, total_small most xs (λ i. h (suc i)))
+
+pub sum-requires-clause-fits : goal.sum-requires-clause-fits
+sum-requires-clause-fits c =
+    let lots = c.args.lots.now in
+    let fits : sum lots < 2 ^ 64 = omega (arith, total_sum lots, total_small 1_000_000_000 lots c.requires.1) in
+    search rules
 
 pub returns : goal.returns
-unfolding gathered
-returns c = omega (arith, c.loop-i.invariant.1, ap total (drop_of_length-le c.args.lots.now {i = c.loop-i.i} (omega arith)))
+returns c =
+    let lots = c.args.lots.now in
+    let summed : c.sum.result ≡ sum lots = search rules in
+    summed ∙ sym (total_sum lots)

@@ -6,7 +6,7 @@ use Rattle.method_laws.specs.Columns.{settlements_of}
 use Rattle.method_laws.specs.Giving.{taken_from}
 use Rattle.method_laws.proofs.Columns.{code_at}
 use Rattle.method_giving.proofs.taken.give.Goals as goal
-use Rattle.method_giving.proofs.taken.give.Goals.{In-loop-k, Start}
+use Rattle.method_giving.proofs.taken.give.Goals.{In-loop-place, Start}
 
 -- one turn of the definition
 module _ (ss : List Section) (codes : List ℕ) (is : codes ≡ settlements_of ss) (order lots caps given : List ℕ) (left k amount : ℕ) where
@@ -23,17 +23,17 @@ module _ (ss : List Section) (codes : List ℕ) (is : codes ≡ settlements_of s
       ∙ ap (λ (c : ℕ). given_now c (min (entry lots now_at) (min (entry caps c) left))) (sym (code_at ss is now_at))
       ∙ ap (given_now (entry codes now_at)) (sym e)
 
-pub loop-k-preserved : goal.loop-k-preserved
-loop-k-preserved c =
+pub loop-place-preserved : goal.loop-place-preserved
+loop-place-preserved c =
     let a = c.args in
-    let section : ℕ = entry a.order.now c.loop-k.k in
-    let place : section < length a.lots.now = c.requires.below.0 c.loop-k.k c.loop-k-test.true in
-    let gives : c.smaller-amount.result ≡ min (entry a.lots.now section) (min (entry c.loop-k.caps (entry a.codes.now section)) c.loop-k.left) =
-    c.smaller-amount.ensures ∙ ap (min (entry a.lots.now section)) c.smaller-within.ensures in (
+    let section : ℕ = entry a.order.now c.loop-place.place-index in
+    let place : section < length a.lots.now = c.requires.below.0 c.loop-place.place-index c.loop-place-test.true in
+    let gives : c.min-amount.result ≡ min (entry a.lots.now section) (min (entry c.loop-place.caps (entry a.codes.now section)) c.loop-place.left) =
+    c.min-amount.ensures ∙ ap (min (entry a.lots.now section)) c.min-within.ensures in (
       omega arith,
-      simp length-set c.loop-k.invariant.1,
-      left_set a.lots.now c.loop-k.given section c.smaller-amount.result (omega (arith, place, c.loop-k.invariant.2.long)) (omega (arith, gives)) c.loop-k.invariant.2,
-      λ ss is. sym (turn ss a.codes.now is a.order.now a.lots.now c.loop-k.caps c.loop-k.given c.loop-k.left c.loop-k.k c.smaller-amount.result c.loop-k-test.true gives) ∙ c.loop-k.invariant.3 ss is,
+      simp length-set c.loop-place.invariant.1,
+      left_set a.lots.now c.loop-place.given section c.min-amount.result (omega (arith, place, c.loop-place.invariant.2.long)) (omega (arith, gives)) c.loop-place.invariant.2,
+      λ ss is. sym (turn ss a.codes.now is a.order.now a.lots.now c.loop-place.caps c.loop-place.given c.loop-place.left c.loop-place.place-index c.min-amount.result c.loop-place-test.true gives) ∙ c.loop-place.invariant.3 ss is,
     )
 
 pub returns : goal.returns
@@ -41,7 +41,7 @@ unfolding taken_from
 returns c =
     let a = c.args in record {
       given_after = λ ss is.
-          sym (ap (λ (rest : List ℕ). taken_from ss rest a.lots.now c.loop-k.caps c.loop-k.left c.loop-k.given) (drop_of_length-le a.order.now {i = c.loop-k.k} (omega arith)))
-          ∙ c.loop-k.invariant.3 ss is;
-      at_most_2 = c.loop-k.invariant.2.within;
+          sym (ap (λ (rest : List ℕ). taken_from ss rest a.lots.now c.loop-place.caps c.loop-place.left c.loop-place.given) (drop_of_length-le a.order.now {i = c.loop-place.place-index} (omega arith)))
+          ∙ c.loop-place.invariant.3 ss is;
+      at_most_2 = c.loop-place.invariant.2.within;
     }

@@ -1,4 +1,4 @@
-use Rattle.numbers.proofs.Words.{rules, ℕ, ◌+◌, ◌*◌, ◌≤◌, ◌<◌, arith, ◌≡◌, sym, ap, ap₂, subst, ◌∙◌, List, ℤ, pos, nat_abs, ◌+ℤ◌, length, set, w64, SFits, to_z, of_z, to_z-of_z, entry, entry_ℤ}
+use Rattle.numbers.proofs.Words.{rules, ℕ, ◌+◌, ◌*◌, ◌≤◌, ◌<◌, arith, ◌≡◌, refl, sym, ap, ap₂, subst, ◌∙◌, List, ℤ, pos, nat_abs, ◌+ℤ◌, length, set, w64, SFits, to_z, of_z, to_z-of_z, entry, entry_ℤ}
 use Rattle.numbers.proofs.Sums.{wholes}
 use Rattle.numbers.proofs.Tally.{tally_none, tally_length, tally_next}
 use Rattle.numbers.proofs.Whole.{read_as, sum_within, sfits_size}
@@ -45,31 +45,29 @@ module _ (codes : List ℕ) (positions : List ℤ) (lots : List ℕ) (i : ℕ) (
             (ap (λ (z : ℤ). to_z w64 (of_z w64 z)) (is ∙ summands) ∙ to_z-of_z fits ∙ ap (λ (out : List ℤ). entry_ℤ out (entry codes i) +ℤ more) e)
 
 pub loop-i-init : goal.loop-i-init
-loop-i-init c = (omega arith, c.requires.codes_len.3 ∙ tally_none ◌+ℤ◌ (pos 0) wholes _ _ 64)
+loop-i-init c = c.requires.codes_len.3 ∙ tally_none ◌+ℤ◌ (pos 0) wholes _ _ 64
 
-pub sum-requires : goal.sum-requires
-sum-requires c =
+pub overflow_add-out : goal.overflow_add-out
+overflow_add-out c =
     let a = c.args in
     let i = c.loop-i.i in
-    summands_fit a.codes.now a.positions.now a.lots.now i c.loop-i.out c.loop-i.invariant.1 c.requires.below.1 (omega arith) c.on_side_of.result (record { sfits = c.on_side_of.type_inv })
+    summands_fit a.codes.now a.positions.now a.lots.now i c.loop-i.out c.loop-i.invariant c.requires.below.1 (omega arith) c.on_side_of.result (record { sfits = c.on_side_of.type_inv })
     (c.on_side_of.ensures ∙ read_as (λ (z : ℤ). on_side_of z (entry a.lots.now i)) (entry_ℤ a.positions.now i) (search rules))
 
 pub loop-i-preserved : goal.loop-i-preserved
 loop-i-preserved c =
     let a = c.args in
-    let i = c.loop-i.i in (
-      omega arith,
-      written a.codes.now a.positions.now a.lots.now i c.loop-i.out c.loop-i.invariant.1 c.requires.below.1 (omega arith) c.on_side_of.result (record { sfits = c.on_side_of.type_inv })
-          (c.on_side_of.ensures ∙ read_as (λ (z : ℤ). on_side_of z (entry a.lots.now i)) (entry_ℤ a.positions.now i) (search rules)) c.sum.result c.sum.ensures (c.requires.below.0 i (omega arith)),
-    )
+    let i = c.loop-i.i in
+    written a.codes.now a.positions.now a.lots.now i c.loop-i.out c.loop-i.invariant c.requires.below.1 (omega arith) c.on_side_of.result (record { sfits = c.on_side_of.type_inv })
+    (c.on_side_of.ensures ∙ read_as (λ (z : ℤ). on_side_of z (entry a.lots.now i)) (entry_ℤ a.positions.now i) (search rules)) _ refl (c.requires.below.0 i (omega arith))
 
 pub returns : goal.returns
 returns c =
     let a = c.args in
     let all : c.loop-i.i ≡ length a.codes.now = omega arith in record {
-      out_after = λ ss e p. c.loop-i.invariant.1 ∙ ap (nets_of a.codes.now a.positions.now a.lots.now) all ∙ nets_all _ _ _ ss e p;
+      out_after = λ ss e p. c.loop-i.invariant ∙ ap (nets_of a.codes.now a.positions.now a.lots.now) all ∙ nets_all _ _ _ ss e p;
       out_len = (
-        out_long a.codes.now a.positions.now a.lots.now c.loop-i.i c.loop-i.out c.loop-i.invariant.1,
-        λ e. omega (arith, out_within a.codes.now a.positions.now a.lots.now c.loop-i.i c.loop-i.out c.loop-i.invariant.1 c.requires.below.1 e),
+        out_long a.codes.now a.positions.now a.lots.now c.loop-i.i c.loop-i.out c.loop-i.invariant,
+        λ e. omega (arith, out_within a.codes.now a.positions.now a.lots.now c.loop-i.i c.loop-i.out c.loop-i.invariant c.requires.below.1 e),
       );
     }

@@ -1,4 +1,4 @@
-use Rattle.numbers.proofs.Words.{ℕ, Bool, List, ◌-◌}
+use Rattle.numbers.proofs.Words.{ℕ, Bool, List}
 use Rattle.rules.specs.Expiry.Passes.{pair_of, earlier_pair}
 use Rattle.method_laws.specs.Columns.{by_key}
 use Rattle.method_passes.specs.declared.{pairs.Pairs.Pairs}
@@ -12,6 +12,3 @@ earlier keys ps i j = earlier_pair (by_key keys) (pair_of (pairs_in ps) i) (pair
 
 abbrev pub invariant-loop-i : goal.invariant-loop-i
 invariant-loop-i l = Scan (earlier l.keys l.ps) (lots_in l.ps) l.best l.i
-
-abbrev pub decreases-loop-i : goal.decreases-loop-i
-decreases-loop-i l = l.ps.count - l.i

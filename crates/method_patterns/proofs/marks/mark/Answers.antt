@@ -2,7 +2,6 @@ use Rattle.numbers.proofs.Words.{ℕ, ◌+◌, ◌/◌, ◌≤◌, ◌<◌, ◌�
 use Rattle.numbers.proofs.Lists.{has, from_here}
 use Rattle.method_patterns.specs.Patterns.{met_in, fails_marked, fails_under}
 use Rattle.method_patterns.proofs.marks.mark.Goals as goal
-use Rattle.method_patterns.proofs.marks.mark.Goals.{In-loop-j, Start}
 
 -- one section more
 turn : (own still failed named : List ℕ) (rest j : ℕ) → j < length named
@@ -14,17 +13,17 @@ no_more : (own still failed named : List ℕ) (rest j : ℕ) → length named �
 unfolding fails_under
 no_more own still failed named rest j past = ap (λ (left : List ℕ). fails_under own still failed left rest) (drop_of_length-le named past)
 
-pub loop-j-preserved : goal.loop-j-preserved
-loop-j-preserved c =
+pub loop-section-preserved : goal.loop-section-preserved
+loop-section-preserved c =
     let a = c.args in
-    let section = entry (a.named.now) c.loop-j.j in (
-      length-set c.loop-j.failed section c.failing.result ∙ c.loop-j.invariant.0,
-      ap (λ (x : ℕ). fails_under (a.own.now) (a.still.now) (set c.loop-j.failed section x) (drop (c.loop-j.j + 1) (a.named.now)) (c.loop-j.rest / 2)) c.failing.ensures
-          ∙ sym (turn (a.own.now) (a.still.now) c.loop-j.failed (a.named.now) c.loop-j.rest c.loop-j.j c.loop-j-test.true)
-          ∙ c.loop-j.invariant.1,
+    let section = entry (a.named.now) c.loop-section.section-index in (
+      length-set c.loop-section.failed section c.failing.result ∙ c.loop-section.invariant.0,
+      ap (λ (x : ℕ). fails_under (a.own.now) (a.still.now) (set c.loop-section.failed section x) (drop (c.loop-section.section-index + 1) (a.named.now)) (c.loop-section.rest / 2)) c.failing.ensures
+          ∙ sym (turn (a.own.now) (a.still.now) c.loop-section.failed (a.named.now) c.loop-section.rest c.loop-section.section-index c.loop-section-test.true)
+          ∙ c.loop-section.invariant.1,
     )
 
 pub returns : goal.returns
 returns c =
     let a = c.args in
-    sym (no_more (a.own.now) (a.still.now) c.loop-j.failed (a.named.now) c.loop-j.rest c.loop-j.j c.loop-j-test.false) ∙ c.loop-j.invariant.1
+    sym (no_more (a.own.now) (a.still.now) c.loop-section.failed (a.named.now) c.loop-section.rest c.loop-section.section-index c.loop-section-test.false) ∙ c.loop-section.invariant.1

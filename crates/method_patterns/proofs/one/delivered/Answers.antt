@@ -40,7 +40,7 @@ module _ (c : After-remaining) where
   kept = take (length (c.args.failed.now)) (c.remaining.new.kept ++ drop (length (c.args.failed.now)) (replicate 128 0))
 
   -- of any book that stands behind the columns it is what the method leaves
-  kept_is : (b : Book) → Stands b (c.args.persons.now) (c.args.codes.now) (c.args.positions.now) (c.args.keys.now) (c.args.selling.now) (c.args.stands.now) (c.args.stock.now) (c.args.failed.now) → kept ≡ remaining_of b
+  kept_is : (b : Book) → Stands b (c.args.persons.now) (c.args.columns.codes.now) (c.args.columns.positions.now) (c.args.columns.keys.now) (c.args.notices.sellers.now) (c.args.notices.stands.now) (c.args.notices.lots.now) (c.args.failed.now) → kept ≡ remaining_of b
   kept_is b is = front.is ∙ c.remaining.ensures.kept_after (held_sections b) (filed_notices b) (columns (facts b is.good_book) is.columns) is.failed_are
 
   kept_small : Small kept
@@ -48,7 +48,7 @@ module _ (c : After-remaining) where
 
 module _ (c : After-form-formed) where
   -- and the lines are those of its expiry
-  lines_are : (b : Book) → Stands b (c.args.persons.now) (c.args.codes.now) (c.args.positions.now) (c.args.keys.now) (c.args.selling.now) (c.args.stands.now) (c.args.stock.now) (c.args.failed.now)
+  lines_are : (b : Book) → Stands b (c.args.persons.now) (c.args.columns.codes.now) (c.args.columns.positions.now) (c.args.columns.keys.now) (c.args.notices.sellers.now) (c.args.notices.stands.now) (c.args.notices.lots.now) (c.args.failed.now)
       → take (length (c.args.failed.now)) (c.remaining.new.kept ++ drop (length (c.args.failed.now)) (replicate 128 0)) ≡ remaining_of b
       → lines_in c.form-formed.result.register ≡ lines_for b
   lines_are b is left = c.form-formed.ensures.register_value _ _ (record { columns = columns (facts b is.good_book) is.columns; filed = is.columns.filed; kept_is = left })
@@ -58,7 +58,7 @@ module _ (c : After-lapsed) where
   gone_front = front_of _ _ _ (omega (arith, many_failing c.requires.0.is, (facts _ c.requires.0.is.good_book).held)) c.lapsed.auto.sums
 
   -- what lapses of the section
-  gone_at : (b : Book) → Stands b (c.args.persons.now) (c.args.codes.now) (c.args.positions.now) (c.args.keys.now) (c.args.selling.now) (c.args.stands.now) (c.args.stock.now) (c.args.failed.now)
+  gone_at : (b : Book) → Stands b (c.args.persons.now) (c.args.columns.codes.now) (c.args.columns.positions.now) (c.args.columns.keys.now) (c.args.notices.sellers.now) (c.args.notices.stands.now) (c.args.notices.lots.now) (c.args.failed.now)
       → lines_in c.form-formed.result.register ≡ lines_for b
       → entry (c.lapsed.new.sums ++ drop (length (c.args.failed.now)) (replicate 128 0)) c.args.asked ≡ entry (lapsed (held_sections b) (filed_notices b)) c.args.asked
   gone_at b is formed = entry_of _ (gone_front.is ∙ c.lapsed.ensures ∙ Taken.lapsed_is (facts b is.good_book) is.persons_are c.form-formed.result.register formed) c.requires.1

@@ -45,9 +45,9 @@ pub inside_passes-formed-requires-clause-read : goal.inside_passes-formed-requir
 inside_passes-formed-requires-clause-read c =
     let a = c.args in
     let e = c.requires.expiring in
-    let inside : Front (length a.sellers.now) (replicate 256 0) c.draw.new.inside = front_of _ _ _ e.noticed.few c.draw.auto.inside in
+    let inside : Front (length a.notices.sellers.now) (replicate 256 0) c.draw.new.inside = front_of _ _ _ e.noticed.few c.draw.auto.inside in
     let split = split_of e c.requires.parted inside.full c.draw.ensures.inside_after c.draw.ensures.beyond_after e.delivers in (
-      subst₂ (λ (bs xs : List ℕ). Read a.codes.now a.keys.now bs a.sellers.now a.stands.now xs) (sym c.keep_long.ensures) (sym inside.is) (read_of e split (sold_of e inside.full c.draw.ensures.by_index.0)),
+      subst₂ (λ (bs xs : List ℕ). Read a.columns.codes.now a.columns.keys.now bs a.notices.sellers.now a.notices.stands.now xs) (sym c.keep_long.ensures) (sym inside.is) (read_of e split (sold_of e inside.full c.draw.ensures.by_index.0)),
       c.nothing-start.ensures.0,
       c.nothing-start.ensures.1,
     )
@@ -56,22 +56,22 @@ pub inside_passes-formed-requires-clause-drawn_len_bound : goal.inside_passes-fo
 inside_passes-formed-requires-clause-drawn_len_bound c =
     let a = c.args in
     let e = c.requires.expiring in
-    let inside : Front (length a.sellers.now) (replicate 256 0) c.draw.new.inside = front_of _ _ _ e.noticed.few c.draw.auto.inside in
+    let inside : Front (length a.notices.sellers.now) (replicate 256 0) c.draw.new.inside = front_of _ _ _ e.noticed.few c.draw.auto.inside in
     let split = split_of e c.requires.parted inside.full c.draw.ensures.inside_after c.draw.ensures.beyond_after e.delivers in
-    subst₂ (λ (bs xs : List ℕ). length (flat_map (lines_by a.keys.now a.sellers.now a.stands.now) (in_codes a.codes.now a.sellers.now bs xs)) ≤ 382) (sym c.keep_long.ensures) (sym inside.is) (omega (arith, room e split))
+    subst₂ (λ (bs xs : List ℕ). length (flat_map (lines_by a.columns.keys.now a.notices.sellers.now a.notices.stands.now) (in_codes a.columns.codes.now a.notices.sellers.now bs xs)) ≤ 382) (sym c.keep_long.ensures) (sym inside.is) (omega (arith, room e split))
 
 pub run-requires-clause-drawn_bound : goal.run-requires-clause-drawn_bound
 run-requires-clause-drawn_bound c =
     let a = c.args in
     let e = c.requires.expiring in
     let formed = c.inside_passes-formed.result in
-    let inside : Front (length a.sellers.now) (replicate 256 0) c.draw.new.inside = front_of _ _ _ e.noticed.few c.draw.auto.inside in
-    let beyond : Front (length a.sellers.now) (replicate 256 0) c.draw.new.beyond = front_of _ _ _ e.noticed.few c.draw.auto.beyond in
+    let inside : Front (length a.notices.sellers.now) (replicate 256 0) c.draw.new.inside = front_of _ _ _ e.noticed.few c.draw.auto.inside in
+    let beyond : Front (length a.notices.sellers.now) (replicate 256 0) c.draw.new.beyond = front_of _ _ _ e.noticed.few c.draw.auto.beyond in
     let split = split_of e c.requires.parted inside.full c.draw.ensures.inside_after c.draw.ensures.beyond_after e.delivers in
     -- what the inside passes form, of what the lists hold
-    let inside_lines : lines_in formed.register ≡ flat_map (lines_by a.keys.now a.sellers.now a.stands.now) (in_codes a.codes.now a.sellers.now (long_lots a.positions.now a.near.now) c.draw.new.inside) =
-    c.inside_passes-formed.ensures.register_value ∙ ap₂ (λ (bs xs : List ℕ). flat_map (lines_by a.keys.now a.sellers.now a.stands.now) (in_codes a.codes.now a.sellers.now bs xs)) c.keep_long.ensures inside.is in
-    subst₂ (λ (bs xs : List ℕ). formed.register.count + length (pass_lines (by_key a.keys.now) a.sellers.now a.stands.now bs xs) ≤ 382) (sym c.keep_long-2.ensures) (sym beyond.is)
+    let inside_lines : lines_in formed.register ≡ flat_map (lines_by a.columns.keys.now a.notices.sellers.now a.notices.stands.now) (in_codes a.columns.codes.now a.notices.sellers.now (long_lots a.columns.positions.now a.near.now) c.draw.new.inside) =
+    c.inside_passes-formed.ensures.register_value ∙ ap₂ (λ (bs xs : List ℕ). flat_map (lines_by a.columns.keys.now a.notices.sellers.now a.notices.stands.now) (in_codes a.columns.codes.now a.notices.sellers.now bs xs)) c.keep_long.ensures inside.is in
+    subst₂ (λ (bs xs : List ℕ). formed.register.count + length (pass_lines (by_key a.columns.keys.now) a.notices.sellers.now a.notices.stands.now bs xs) ≤ 382) (sym c.keep_long-2.ensures) (sym beyond.is)
     (omega (arith, room e split, lines_count formed.register, ap length inside_lines))
 
 pub returns-clause-register_value : goal.returns-clause-register_value
@@ -79,14 +79,14 @@ returns-clause-register_value c =
     let a = c.args in
     let e = c.requires.expiring in
     let formed = c.inside_passes-formed.result in
-    let inside : Front (length a.sellers.now) (replicate 256 0) c.draw.new.inside = front_of _ _ _ e.noticed.few c.draw.auto.inside in
-    let beyond : Front (length a.sellers.now) (replicate 256 0) c.draw.new.beyond = front_of _ _ _ e.noticed.few c.draw.auto.beyond in
-    let inside_lines : lines_in formed.register ≡ flat_map (lines_by a.keys.now a.sellers.now a.stands.now) (in_codes a.codes.now a.sellers.now (long_lots a.positions.now a.near.now) c.draw.new.inside) =
-    c.inside_passes-formed.ensures.register_value ∙ ap₂ (λ (bs xs : List ℕ). flat_map (lines_by a.keys.now a.sellers.now a.stands.now) (in_codes a.codes.now a.sellers.now bs xs)) c.keep_long.ensures inside.is in
-    let last = lines_by a.keys.now a.sellers.now a.stands.now (outside_of a.positions.now a.far.now c.draw.new.beyond) in
+    let inside : Front (length a.notices.sellers.now) (replicate 256 0) c.draw.new.inside = front_of _ _ _ e.noticed.few c.draw.auto.inside in
+    let beyond : Front (length a.notices.sellers.now) (replicate 256 0) c.draw.new.beyond = front_of _ _ _ e.noticed.few c.draw.auto.beyond in
+    let inside_lines : lines_in formed.register ≡ flat_map (lines_by a.columns.keys.now a.notices.sellers.now a.notices.stands.now) (in_codes a.columns.codes.now a.notices.sellers.now (long_lots a.columns.positions.now a.near.now) c.draw.new.inside) =
+    c.inside_passes-formed.ensures.register_value ∙ ap₂ (λ (bs xs : List ℕ). flat_map (lines_by a.columns.keys.now a.notices.sellers.now a.notices.stands.now) (in_codes a.columns.codes.now a.notices.sellers.now bs xs)) c.keep_long.ensures inside.is in
+    let last = lines_by a.columns.keys.now a.notices.sellers.now a.notices.stands.now (outside_of a.columns.positions.now a.far.now c.draw.new.beyond) in
     λ ss ns d.
     c.run.ensures.register_value
-    ∙ ap₂ (λ (bs xs : List ℕ). lines_in formed.register ++ pass_lines (by_key a.keys.now) a.sellers.now a.stands.now bs xs) c.keep_long-2.ensures beyond.is
+    ∙ ap₂ (λ (bs xs : List ℕ). lines_in formed.register ++ pass_lines (by_key a.columns.keys.now) a.notices.sellers.now a.notices.stands.now bs xs) c.keep_long-2.ensures beyond.is
     ∙ ap (λ (ls : List Line). ls ++ last) inside_lines
     ∙ lines_of_lem e d (split_of e c.requires.parted inside.full c.draw.ensures.inside_after c.draw.ensures.beyond_after d)
 
@@ -95,13 +95,13 @@ returns-clause-pairs_value c =
     let a = c.args in
     let e = c.requires.expiring in
     let formed = c.inside_passes-formed.result in
-    let inside : Front (length a.sellers.now) (replicate 256 0) c.draw.new.inside = front_of _ _ _ e.noticed.few c.draw.auto.inside in
-    let beyond : Front (length a.sellers.now) (replicate 256 0) c.draw.new.beyond = front_of _ _ _ e.noticed.few c.draw.auto.beyond in
-    let first = flat_map (pairs_by a.keys.now a.stands.now) (in_codes a.codes.now a.sellers.now (long_lots a.positions.now a.near.now) c.draw.new.inside) in
+    let inside : Front (length a.notices.sellers.now) (replicate 256 0) c.draw.new.inside = front_of _ _ _ e.noticed.few c.draw.auto.inside in
+    let beyond : Front (length a.notices.sellers.now) (replicate 256 0) c.draw.new.beyond = front_of _ _ _ e.noticed.few c.draw.auto.beyond in
+    let first = flat_map (pairs_by a.columns.keys.now a.notices.stands.now) (in_codes a.columns.codes.now a.notices.sellers.now (long_lots a.columns.positions.now a.near.now) c.draw.new.inside) in
     let inside_pairs : formed.pairs ≡ length first =
-    c.inside_passes-formed.ensures.pairs_value ∙ ap₂ (λ (bs xs : List ℕ). length (flat_map (pairs_by a.keys.now a.stands.now) (in_codes a.codes.now a.sellers.now bs xs))) c.keep_long.ensures inside.is in
-    let outer = outside_of a.positions.now a.far.now c.draw.new.beyond in
+    c.inside_passes-formed.ensures.pairs_value ∙ ap₂ (λ (bs xs : List ℕ). length (flat_map (pairs_by a.columns.keys.now a.notices.stands.now) (in_codes a.columns.codes.now a.notices.sellers.now bs xs))) c.keep_long.ensures inside.is in
+    let outer = outside_of a.columns.positions.now a.far.now c.draw.new.beyond in
     λ ss ns d.
     c.run.ensures.pairs_value
-    ∙ ap₂ (λ (bs xs : List ℕ). formed.pairs + length (pass_pairs (by_key a.keys.now) a.stands.now bs xs)) c.keep_long-2.ensures beyond.is
-    ∙ omega (arith, inside_pairs, length-append first (pairs_by a.keys.now a.stands.now outer), ap length (all_pairs d (split_of e c.requires.parted inside.full c.draw.ensures.inside_after c.draw.ensures.beyond_after d)))
+    ∙ ap₂ (λ (bs xs : List ℕ). formed.pairs + length (pass_pairs (by_key a.columns.keys.now) a.notices.stands.now bs xs)) c.keep_long-2.ensures beyond.is
+    ∙ omega (arith, inside_pairs, length-append first (pairs_by a.columns.keys.now a.notices.stands.now outer), ap length (all_pairs d (split_of e c.requires.parted inside.full c.draw.ensures.inside_after c.draw.ensures.beyond_after d)))

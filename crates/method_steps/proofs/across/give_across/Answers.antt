@@ -33,8 +33,8 @@ returns c = λ ss columns.
     ∙ ap₂ (λ (nets : List ℤ) (d : ℤ). listed 64 (λ (i : ℕ). cap_of d (entry_ℤ nets i))) (c.nets.ensures.out_after ss columns.codes_are columns.positions_are) (to_z-of_z c.ranges.d)
     ∙ caps_are ss left a.d in
     c.give.ensures.given_after ss columns
-    ∙ ap₂ (λ (lots caps : List ℕ). give lots caps c.size-need.result) (front.is ∙ lots_are) capped
-    ∙ ap (give _ _) (c.size-need.ensures ∙ ap nat_abs (to_z-of_z c.ranges.d))
-    ∙ taken_across ss (told ss a.codes.now a.positions.now a.keys.now columns)
+    ∙ ap₂ (λ (lots caps : List ℕ). give lots caps c.unsigned_abs-need.result) (front.is ∙ lots_are) capped
+    ∙ ap (give _ _) (c.unsigned_abs-need.ensures.value ∙ ap nat_abs (to_z-of_z c.ranges.d))
+    ∙ taken_across ss (told ss a.columns.codes.now a.columns.positions.now a.columns.keys.now columns)
     (λ i h. omega (arith, code_at ss columns.codes_are i, c.requires.0.code i (omega (arith, h, codes_long ss columns.codes_are))))
     a.d left

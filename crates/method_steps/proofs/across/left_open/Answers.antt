@@ -16,9 +16,9 @@ module _ (gaps nets : List ℤ) (gaps_small : NetsSmall gaps) (nets_small : Nets
   both_small : nat_abs (gap +ℤ net) ≤ 256_000_000
   both_small = omega (arith, sum_within gap net (gaps_small c) (nets_small c))
 
-  -- what the first call returns
-  both : to_z w64 (of_z w64 gap) ≡ gap → to_z w64 (of_z w64 net) ≡ net → (sum : ℤ) → sum ≡ to_z w64 (of_z w64 gap) +ℤ to_z w64 (of_z w64 net) → to_z w64 (of_z w64 sum) ≡ gap +ℤ net
-  both gap_read net_read sum is = ap (λ (z : ℤ). to_z w64 (of_z w64 z)) (is ∙ ap₂ ◌+ℤ◌ gap_read net_read) ∙ to_z-of_z (sfits_size w64 _ (omega (arith, both_small)))
+  -- what the first addition leaves
+  both : to_z w64 (of_z w64 gap) ≡ gap → to_z w64 (of_z w64 net) ≡ net → to_z w64 (of_z w64 (to_z w64 (of_z w64 gap) +ℤ to_z w64 (of_z w64 net))) ≡ gap +ℤ net
+  both gap_read net_read = ap (λ (z : ℤ). to_z w64 (of_z w64 z)) (ap₂ ◌+ℤ◌ gap_read net_read) ∙ to_z-of_z (sfits_size w64 _ (omega (arith, both_small)))
 
   -- and with the sum so far
   module _ (d : ℤ) (d_small : nat_abs d ≤ 256_000_000 * c) where
@@ -33,7 +33,7 @@ module _ (gaps nets : List ℤ) (gaps_small : NetsSmall gaps) (nets_small : Nets
 
 pub loop-c-init : goal.loop-c-init
 unfolding counted gathered
-loop-c-init c = (omega arith, refl, omega arith)
+loop-c-init c = (refl, omega arith)
 
 pub loop-c-preserved : goal.loop-c-preserved
 loop-c-preserved c =
@@ -44,10 +44,10 @@ loop-c-preserved c =
     let d = to_z w64 c.loop-c.d-bits in
     let gap_read : to_z w64 (of_z w64 (entry_ℤ a.gaps.now i)) ≡ entry_ℤ a.gaps.now i = read_back w64 _ (search rules) in
     let net_read : to_z w64 (of_z w64 (entry_ℤ a.nets.now i)) ≡ entry_ℤ a.nets.now i = read_back w64 _ (search rules) in
-    let stored : to_z w64 (of_z w64 c.sum-d.result) ≡ d +ℤ rest a.gaps.now a.nets.now i =
-    ap (λ (z : ℤ). to_z w64 (of_z w64 z)) (c.sum-d.ensures ∙ ap (λ (z : ℤ). d +ℤ z) (both a.gaps.now a.nets.now gaps_small nets_small i gap_read net_read c.sum.result c.sum.ensures))
-    ∙ to_z-of_z (fits a.gaps.now a.nets.now gaps_small nets_small i d c.loop-c.invariant.2 c.loop-c-test.true) in (
-      omega arith,
-      stored ∙ more a.gaps.now a.nets.now gaps_small nets_small i d c.loop-c.invariant.2 c.loop-c.invariant.1,
-      omega (arith, within a.gaps.now a.nets.now gaps_small nets_small i d c.loop-c.invariant.2, ap nat_abs stored),
+    let added = d +ℤ to_z w64 (of_z w64 (to_z w64 (of_z w64 (entry_ℤ a.gaps.now i)) +ℤ to_z w64 (of_z w64 (entry_ℤ a.nets.now i)))) in
+    let stored : to_z w64 (of_z w64 added) ≡ d +ℤ rest a.gaps.now a.nets.now i =
+    ap (λ (z : ℤ). to_z w64 (of_z w64 (d +ℤ z))) (both a.gaps.now a.nets.now gaps_small nets_small i gap_read net_read)
+    ∙ to_z-of_z (fits a.gaps.now a.nets.now gaps_small nets_small i d c.loop-c.invariant.1 (omega arith)) in (
+      stored ∙ more a.gaps.now a.nets.now gaps_small nets_small i d c.loop-c.invariant.1 c.loop-c.invariant.0,
+      omega (arith, within a.gaps.now a.nets.now gaps_small nets_small i d c.loop-c.invariant.1, ap nat_abs stored),
     )

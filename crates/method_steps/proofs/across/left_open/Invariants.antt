@@ -1,5 +1,5 @@
 -- The loop's invariant: the sum is that of the first codes, and within 256,000,000 for each.
-use Rattle.numbers.proofs.Words.{ℕ, ◌-◌, ◌*◌, ◌≤◌, ◌≡◌, List, ℤ, nat_abs, ◌+ℤ◌, entry_ℤ, listed, total_ℤ}
+use Rattle.numbers.proofs.Words.{ℕ, ◌*◌, ◌≤◌, ◌≡◌, List, ℤ, nat_abs, ◌+ℤ◌, entry_ℤ, listed, total_ℤ}
 use Rattle.method_steps.proofs.across.left_open.Given as goal
 
 -- what a code leaves open
@@ -7,7 +7,4 @@ abbrev pub rest : List ℤ → List ℤ → ℕ → ℤ
 rest gaps nets c = entry_ℤ gaps c +ℤ entry_ℤ nets c
 
 abbrev pub invariant-loop-c : goal.invariant-loop-c
-invariant-loop-c l = (l.c ≤ 64) × (l.d ≡ total_ℤ (listed l.c (rest l.gaps l.nets))) × (nat_abs l.d ≤ 256_000_000 * l.c)
-
-abbrev pub decreases-loop-c : goal.decreases-loop-c
-decreases-loop-c l = 64 - l.c
+invariant-loop-c l = (l.d ≡ total_ℤ (listed l.c (rest l.gaps l.nets))) × (nat_abs l.d ≤ 256_000_000 * l.c)

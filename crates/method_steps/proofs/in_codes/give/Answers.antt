@@ -24,4 +24,4 @@ returns-clause-given_after c = λ ss columns.
     c.give.ensures.given_after ss columns
     ∙ ap₂ (λ (lots caps : List ℕ). give lots caps c.sum-need.result) (front.is ∙ c.on_side_in_codes.ensures.out_after ss columns.codes_are columns.positions_are) c.magnitudes.ensures
     ∙ ap (give _ _) (c.sum-need.ensures ∙ ap total c.magnitudes.ensures)
-    ∙ taken_sizes ss (told ss a.codes.now a.positions.now a.keys.now columns) a.outside _ a.numbers.now (listed-length (length ss) _)
+    ∙ taken_sizes ss (told ss a.columns.codes.now a.columns.positions.now a.columns.keys.now columns) a.outside _ a.numbers.now (listed-length (length ss) _)

@@ -14,7 +14,7 @@ give-requires-clause-below c =
     let order = c.in_order.new.order in
     let front : Front (length lots) noughts order = front_of (length lots) noughts order c.requires.0.few c.in_order.auto.order in (
       subst (λ (is : List ℕ). (k : ℕ) → k < length is → entry is k < length lots) (sym front.is)
-          (order_below (sooner a.larger) (by_key a.keys.now) lots order (length lots) c.in_order.ensures front.full),
+          (order_below (sooner a.larger) (by_key a.columns.keys.now) lots order (length lots) c.in_order.ensures front.full),
       c.requires.0.code,
     )
 
@@ -30,6 +30,6 @@ returns-clause-given_after c = λ ss columns.
     ∙ ap₂ (λ (is done : List ℕ). taken_from ss is lots a.caps.now a.need done)
     (front.is
     ∙ c.in_order.ensures
-    ∙ ap (in_order (sooner a.larger) (by_key a.keys.now) lots) long
-    ∙ order_by_keys ss a.codes.now a.positions.now a.keys.now columns (sooner a.larger) lots)
+    ∙ ap (in_order (sooner a.larger) (by_key a.columns.keys.now) lots) long
+    ∙ order_by_keys ss a.columns.codes.now a.columns.positions.now a.columns.keys.now columns (sooner a.larger) lots)
     (c.requires.1 ∙ ap (λ (n : ℕ). replicate n 0) long)

@@ -18,7 +18,7 @@ close_codes-d-requires-clause-nets_small c = (
         ap (λ (xs : List ℕ). entry xs i) c.less.ensures,
         less_at c.magnitudes.new.out c.args.failed.now i,
         ap (λ (xs : List ℕ). entry xs i) c.magnitudes.ensures,
-        sizes_small 1_000_000 c.args.positions.now c.requires.0.position i,
+        sizes_small 1_000_000 c.args.columns.positions.now c.requires.0.position i,
       ),
 )
 

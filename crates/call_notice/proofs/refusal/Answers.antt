@@ -1,5 +1,0 @@
-use Rattle.book_laws.proofs.Good.{facts}
-use Rattle.call_notice.proofs.refusal.Goals as goal
-
-pub notice_filed-requires : goal.notice_filed-requires
-notice_filed-requires c = (facts _ c.requires).filed

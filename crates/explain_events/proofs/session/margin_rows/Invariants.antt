@@ -1,5 +1,0 @@
-use Rattle.numbers.proofs.Words.{◌-◌}
-use Rattle.explain_events.proofs.session.margin_rows.Given as goal
-
-abbrev pub decreases-loop-i : goal.decreases-loop-i
-decreases-loop-i g l = 128 - l.i

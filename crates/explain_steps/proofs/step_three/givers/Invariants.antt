@@ -1,5 +1,0 @@
-use Rattle.numbers.proofs.Words.{◌-◌}
-use Rattle.explain_steps.proofs.step_three.givers.Given as goal
-
-abbrev pub decreases-loop-k : goal.decreases-loop-k
-decreases-loop-k g l = l.held - l.k

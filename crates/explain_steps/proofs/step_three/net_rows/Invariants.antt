@@ -1,5 +1,0 @@
-use Rattle.numbers.proofs.Words.{◌-◌}
-use Rattle.explain_steps.proofs.step_three.net_rows.Given as goal
-
-abbrev pub decreases-loop-c : goal.decreases-loop-c
-decreases-loop-c g l = 64 - l.c

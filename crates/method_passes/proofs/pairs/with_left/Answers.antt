@@ -1,6 +1,0 @@
-use Rattle.numbers.proofs.Words.{rules}
-use Rattle.method_passes.proofs.Arrays.{pairs_less}
-use Rattle.method_passes.proofs.pairs.with_left.Goals as goal
-
-pub returns : goal.returns
-returns c = pairs_less c.args.ps c.args.p c.args.left c.requires.0 c.requires.1 (search rules)
