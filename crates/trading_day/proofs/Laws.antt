@@ -1,2 +1,3 @@
 pub mod InTurn
+pub mod Passed
 pub mod Walk

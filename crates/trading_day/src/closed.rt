@@ -1,8 +1,8 @@
-// Closed dates: which are allowed, and whether a date is one of them.
-ghost use Rattle.std.specs.Prelude.{◌≡◌, eqb};
-ghost use Rattle.std.specs.List.{list_any};
+// Closed dates: which are allowed, and the walk over them beside the days.
+ghost use Rattle.std.specs.Prelude.{◌≡◌, ◌≤◌, length, drop};
 ghost use Rattle.rules.specs.Words.{every, ascending, ◌and◌};
 ghost use Rattle.rules.specs.LastTradingDay.{closed_good};
+ghost use Rattle.trading_day.specs.Walk.{Passed, starts_with};
 
 use crate::numbered;
 use calendar::dates;
@@ -32,9 +32,27 @@ pub fn in_turn(closed: &[u32]) -> bool
     true
 }
 
-// Whether a number is one of the closed dates.
-pub fn among(closed: &[u32], number: u64) -> bool
-    ensures { result ≡ list_any (eqb number) closed.now }
+// The first place from one on where a closed date is not below a number.
+pub fn passed(closed: &[u32], from: usize, number: u64) -> usize
+    requires { from ≤ length closed.now }
+    ensures { Passed closed.now from number result }
 {
-    closed.iter().any(|date| number == u64::from(*date))
+    for at in from..closed.len() {
+        let date = closed[at] as u64;
+        if number <= date {
+            return at;
+        }
+    }
+    closed.len()
+}
+
+// Whether a number is the closed date at a place.
+pub fn stands_at(closed: &[u32], at: usize, number: u64) -> bool
+    ensures { result ≡ starts_with number (drop at closed.now) }
+{
+    if at < closed.len() {
+        let date = closed[at] as u64;
+        return number == date;
+    }
+    false
 }
