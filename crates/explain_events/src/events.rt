@@ -1,4 +1,8 @@
 // The events that are accepted, in words: openings of sections, conditions and notices.
+ghost use Rattle.std.specs.Prelude.{ℕ, ◌≡◌, ◌<◌};
+ghost use Rattle.rules.specs.Book.{section_at};
+ghost use Rattle.listing.specs.Columns.{code_at};
+
 use explain_row::row::Rows;
 use rules::book::Book;
 use rules::refusal::Refusal;
@@ -9,7 +13,9 @@ use std::io::Print;
 pub const NAME_BYTES: usize = 896;
 
 // The section codes of a book, end to end (01, Forms, 7).
-pub fn names_of(b: &Book) -> [u8; NAME_BYTES] {
+pub fn names_of(b: &Book) -> [u8; NAME_BYTES]
+    ensures { (i : ℕ) → i < 128 → code_at result i ≡ (section_at b.now i).code }
+{
     let mut names = [0; NAME_BYTES];
     listing::codes::laid(*b, &mut names);
     names

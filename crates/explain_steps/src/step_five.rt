@@ -38,13 +38,14 @@ fn notice(
 ) -> io::Result<()> {
     let i = n.section as usize;
     let lots = signed::size(n.lots.0);
-    rows.say(
-        b"notice #: @ at elevator #, # lots",
-        &[k as u64, n.section as u64, n.elevator as u64, lots],
-    )?;
+    let numbers = [k as u64, n.section as u64, n.elevator as u64, lots];
     if 0 <= entries::nth(&columns.positions, i) {
-        return rows.words(b": ignored, the section is not short\n");
+        return rows.say(
+            b"notice #: @ at elevator #, # lots: ignored, the section is not short\n",
+            &numbers,
+        );
     }
+    rows.say(b"notice #: @ at elevator #, # lots", &numbers)?;
     let inside = entries::nth(&fifth.inside, k);
     let beyond = entries::nth(&fifth.beyond, k);
     drawn(rows, lots, inside, beyond, entries::nth(failed, i))
