@@ -7,15 +7,17 @@ ghost use Rattle.rules.specs.Book.{good};
 ghost use Rattle.rules.specs.Calls.{first};
 ghost use Rattle.rules.specs.Expiry.Call;
 ghost use Rattle.rules.specs.Lent.{lists_of, SameLists};
+ghost use Rattle.shared_lists.specs.Lists.{lists_read};
 
 use rules::book::{Book, Expired, LastSession};
 use rules::limits::REGISTER_PLACES;
 use rules::lists::ExpiryLists;
 use rules::refusal::Refusal;
+use shared_lists::Lists;
 
 // Whether some register list has too few entries (01, Expiry call, 1).
-fn register_short(lists: &ExpiryLists) -> bool
-    ensures { result ≡ (ltb (length lists.now.buyers.now) 382 || (ltb (length lists.now.elevators.now) 382 || (ltb (length lists.now.sellers.now) 382 || ltb (length lists.now.lots.now) 382))) }
+fn register_short(lists: Lists<'_>) -> bool
+    ensures { result ≡ (ltb (length lists.entry.buyers.now) 382 || (ltb (length lists.entry.elevators.now) 382 || (ltb (length lists.entry.sellers.now) 382 || ltb (length lists.entry.lots.now) 382))) }
 {
     let places = REGISTER_PLACES;
     let later = (lists.sellers.len() < places) | (lists.lots.len() < places);
@@ -23,8 +25,8 @@ fn register_short(lists: &ExpiryLists) -> bool
 }
 
 // Whether some section list has fewer entries than the sections held (01, Expiry call, 1; 02, a, 4).
-fn sections_short(held: usize, lists: &ExpiryLists) -> bool
-    ensures { result ≡ (ltb (length lists.now.delivered.now) held || (ltb (length lists.now.terminated.now) held || ltb (length lists.now.lapsed.now) held)) }
+fn sections_short(held: usize, lists: Lists<'_>) -> bool
+    ensures { result ≡ (ltb (length lists.entry.delivered.now) held || (ltb (length lists.entry.terminated.now) held || ltb (length lists.entry.lapsed.now) held)) }
 {
     let later = (lists.terminated.len() < held) | (lists.lapsed.len() < held);
     (lists.delivered.len() < held) | later
@@ -32,9 +34,9 @@ fn sections_short(held: usize, lists: &ExpiryLists) -> bool
 
 // Whether an expiry on a good book is accepted, or why it is refused (01, Expiry call, 1).
 #[tactic(auto, using(crate::proofs::Laws::expiry_number_lem))]
-pub fn check(b: Book, lists: &ExpiryLists) -> Result<(), Refusal>
+pub fn check(b: Book, lists: Lists<'_>) -> Result<(), Refusal>
     requires { good b ≡ true }
-    ensures { number_in result ≡ first (Call.expiry_refusals b (lists_of lists.now)) }
+    ensures { number_in result ≡ first (Call.expiry_refusals b (lists_read lists.entry).lists) }
 {
     if b.expired {
         return Err(Refusal::Expired);
@@ -73,7 +75,7 @@ pub fn expiry(b: Book, lists: &mut ExpiryLists) -> Result<Expired, Refusal>
     if !judge::good(b) {
         return Err(Refusal::BadBook);
     }
-    check(b, lists)?;
+    check(b, shared_lists::of_expiry(lists))?;
     let counts = method_delivery::deliver(b, lists);
     let book = expired(b);
     Ok(Expired {

@@ -4,7 +4,7 @@
 ghost use Rattle.std.specs.Prelude.{◌≡◌};
 ghost use Rattle.rules.specs.Answers.{label_answer_in};
 ghost use Rattle.rules.specs.Label;
-ghost use Rattle.call_label.specs.Lists.{lists_read};
+ghost use Rattle.shared_lists.specs.Lists.{lists_read};
 
 use crate::lists::Lists;
 use rules::book::Book;

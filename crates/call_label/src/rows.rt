@@ -2,7 +2,7 @@
 ghost use Rattle.std.specs.Prelude.{◌≡◌, ◌≤◌, length, IfSome};
 ghost use Rattle.rules.specs.Label.{row_fit};
 ghost use Rattle.call_label.specs.Lengths.{line_length, lines_counted, section_length, sections_length};
-ghost use Rattle.call_label.specs.Lists.{lists_read};
+ghost use Rattle.shared_lists.specs.Lists.{lists_read};
 
 use crate::lengths;
 use crate::lists::Lists;

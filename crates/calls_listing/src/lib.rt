@@ -3,15 +3,15 @@
 
 ghost use Rattle.std.specs.Prelude.{ℕ, ◌+◌, ◌≤◌, ◌<◌, length};
 ghost use Rattle.rules.specs.Words.{entry};
-ghost use Rattle.rules.specs.Lent.{lists_of};
 ghost use Rattle.rules.specs.CallsListing.{call_row, margins_row};
 ghost use Rattle.listing.specs.Laid.{Laid};
+ghost use Rattle.shared_lists.specs.Lists.{lists_read};
 ghost use Rattle.calls_listing.specs.Texts.{answer_rows, counts_row, delivery};
 
 use listing::text::{LINE_END, SPACE};
 use listing::{codes, rows, text};
 use rules::book::Expired;
-use rules::lists::ExpiryLists;
+use shared_lists::Lists;
 
 mod fields;
 mod lots;
@@ -60,13 +60,13 @@ fn counts(pairs: usize, lines: usize, kept: usize, out: &mut [u8], at: usize) ->
 
 // An expiry: how many pairs and lines were formed, how many lines are kept, these lines, and each section's lots
 // (01, Expiry, 7; 01, Program, 1; 02, a, 4 and 6).
-pub fn delivered(expired: Expired, lists: &ExpiryLists, out: &mut [u8], at: usize) -> usize
+pub fn delivered(expired: Expired, lists: Lists<'_>, out: &mut [u8], at: usize) -> usize
     requires held_bound { (expired.book.held ≤ 128) × (expired.book.lot.0 ≤ 1_000) }
-    requires kept_in_bounds { (expired.kept ≤ length lists.now.buyers.now) × (expired.kept ≤ length lists.now.elevators.now) × (expired.kept ≤ length lists.now.sellers.now) × (expired.kept ≤ length lists.now.lots.now) }
-    requires held_in_bounds { (expired.book.held ≤ length lists.now.delivered.now) × (expired.book.held ≤ length lists.now.terminated.now) × (expired.book.held ≤ length lists.now.lapsed.now) }
-    requires by_index { (i : ℕ) → i < expired.kept → (entry lists.now.buyers.now i < 128) × (entry lists.now.sellers.now i < 128) × (entry lists.now.lots.now i ≤ 1_000_000) }
-    requires lapsed_in_bounds { at + length (delivery expired (lists_of lists.now)) ≤ length out.old }
-    ensures { Laid out.old at (delivery expired (lists_of lists.now)) out.new result }
+    requires kept_in_bounds { (expired.kept ≤ length lists.buyers.now) × (expired.kept ≤ length lists.elevators.now) × (expired.kept ≤ length lists.sellers.now) × (expired.kept ≤ length lists.lots.now) }
+    requires held_in_bounds { (expired.book.held ≤ length lists.delivered.now) × (expired.book.held ≤ length lists.terminated.now) × (expired.book.held ≤ length lists.lapsed.now) }
+    requires by_index { (i : ℕ) → i < expired.kept → (entry lists.buyers.now i < 128) × (entry lists.sellers.now i < 128) × (entry lists.lots.now i ≤ 1_000_000) }
+    requires lapsed_in_bounds { at + length (delivery expired (lists_read lists).lists) ≤ length out.old }
+    ensures { Laid out.old at (delivery expired (lists_read lists.entry).lists) out.new result }
 {
     let lines = expired.lines;
     let kept = expired.kept;

@@ -35,7 +35,10 @@ pub fn printed(file: &[u8]) -> Listing
     };
     let mut bytes = [0; LISTING_BYTES_MOST];
     let length = match file_read::read(file, &mut lent) {
-        Ok(read) => listing::accepted(read.book, read.kept, &lent, &mut bytes),
+        Ok(read) => {
+            let lists = shared_lists::of_read(&lent);
+            listing::accepted(read.book, read.kept, lists, &mut bytes)
+        }
         Err(e) => listing::refused(listing::number_of(e.refusal), e.place, &mut bytes),
     };
     Listing { bytes, length }

@@ -4,14 +4,14 @@
 ghost use Rattle.std.specs.Prelude.{ℕ, ◌≡◌, ◌+◌, ◌≤◌, ◌<◌, length};
 ghost use Rattle.rules.specs.Answers.{refusal_number};
 ghost use Rattle.rules.specs.Words.{entry, over};
-ghost use Rattle.rules.specs.Lent.{lent_of};
 ghost use Rattle.rules.specs.Listing.{listing_bytes, refusal_row};
 ghost use Rattle.listing.specs.Columns.{refused_row};
 ghost use Rattle.listing.specs.Laid.{Laid};
+ghost use Rattle.shared_lists.specs.Lists.{lists_read};
 
 use rules::book::Book;
-use rules::lists::ReadLists;
 use rules::refusal::Refusal;
+use shared_lists::Lists;
 
 pub mod codes;
 mod digits;
@@ -20,21 +20,21 @@ pub mod text;
 
 // The listing of an expired book, its register and its lists: how many lines are kept, a row for each of them, a row for each section. It
 // answers how many bytes were written; later ones remain (01, Program, 1 and 3; 01, Forms, 7; 01, Bound, a; 02, a, 4 and 6).
-pub fn accepted(b: Book, kept: usize, lists: &ReadLists, out: &mut [u8]) -> usize
+pub fn accepted(b: Book, kept: usize, lists: Lists<'_>, out: &mut [u8]) -> usize
     requires held_bound { (b.held ≤ 128) × (b.lot.0 ≤ 1_000) }
-    requires kept_in_bounds { (kept ≤ length lists.now.expiry.buyers.now) × (kept ≤ length lists.now.expiry.elevators.now) × (kept ≤ length lists.now.expiry.sellers.now) × (kept ≤ length lists.now.expiry.lots.now) }
-    requires held_in_bounds { (b.held ≤ length lists.now.expiry.delivered.now) × (b.held ≤ length lists.now.expiry.terminated.now) × (b.held ≤ length lists.now.expiry.lapsed.now) × (b.held ≤ length lists.now.sums.now) }
-    requires by_index { (i : ℕ) → i < kept → (entry lists.now.expiry.buyers.now i < 128) × (entry lists.now.expiry.sellers.now i < 128) × (entry lists.now.expiry.lots.now i ≤ 1_000_000) }
-    requires sums_in_bounds { length (listing_bytes b kept (lent_of lists.now)) ≤ length out.old }
-    ensures value { result ≡ length (listing_bytes b kept (lent_of lists.now)) }
-    ensures out_after { out.new ≡ over (listing_bytes b kept (lent_of lists.now)) out.old }
+    requires kept_in_bounds { (kept ≤ length lists.buyers.now) × (kept ≤ length lists.elevators.now) × (kept ≤ length lists.sellers.now) × (kept ≤ length lists.lots.now) }
+    requires held_in_bounds { (b.held ≤ length lists.delivered.now) × (b.held ≤ length lists.terminated.now) × (b.held ≤ length lists.lapsed.now) × (b.held ≤ length lists.sums.now) }
+    requires by_index { (i : ℕ) → i < kept → (entry lists.buyers.now i < 128) × (entry lists.sellers.now i < 128) × (entry lists.lots.now i ≤ 1_000_000) }
+    requires sums_in_bounds { length (listing_bytes b kept (lists_read lists)) ≤ length out.old }
+    ensures value { result ≡ length (listing_bytes b kept (lists_read lists.entry)) }
+    ensures out_after { out.new ≡ over (listing_bytes b kept (lists_read lists.entry)) out.old }
 {
     let lot = b.lot;
     let held = b.held;
     let mut codes = [0; 896];
     codes::laid(b, &mut codes);
     let at = rows::head(kept, out, 0);
-    let at = rows::lines(&codes, &lists.expiry, lot, kept, out, at);
+    let at = rows::lines(&codes, lists, lot, kept, out, at);
     rows::sections(&codes, lists, held, out, at)
 }
 

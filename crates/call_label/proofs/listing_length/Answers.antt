@@ -4,7 +4,7 @@ use Rattle.rules.specs.Expiry.Call.{line_of}
 use Rattle.rules.specs.Label.{rows_of}
 use Rattle.book_laws.proofs.Good.{facts}
 use Rattle.book_laws.proofs.Held.{held_good}
-use Rattle.call_label.specs.Lists.{lists_read}
+use Rattle.shared_lists.specs.Lists.{lists_read}
 use Rattle.call_label.proofs.Laws.Label.{label_bad_book, label_unfit, label_rows_unfit, label_accepted, evenly, long_enough, rows_facts}
 use Rattle.call_label.proofs.Laws.Rows.{listing_length, none_counted, some_counted}
 use Rattle.call_label.proofs.listing_length.Goals as goal

@@ -1,10 +1,10 @@
-use Rattle.numbers.proofs.Words.{◌≡◌, arith, sym, ap, ◌∙◌, le_trans, refl}
+use Rattle.numbers.proofs.Words.{◌≡◌, arith, sym, ap, ◌∙◌, le_trans, refl, subst}
 use Rattle.std.specs.Prelude.{Ok, Err}
 use Rattle.rules.specs.Answers.{file_answer_in}
 use Rattle.rules.specs.Book.{no_book}
 use Rattle.rules.specs.File.{file_answer, read_whole}
 use Rattle.rules.specs.Lent.{lent_of}
-use Rattle.rules.specs.Listing.{noughts}
+use Rattle.rules.specs.Listing.{listing_bytes, noughts}
 use Rattle.listing.specs.Columns.{refused_row}
 use Rattle.listing.proofs.Laws.Most.{refused_most, lines_asked, listing_most_lem}
 use Rattle.file_opening.proofs.Laws.{refuses, refusal_few}
@@ -28,8 +28,8 @@ module _ (c : In-Ok) where
 
 pub accepted-length-requires : goal.accepted-length-requires
 accepted-length-requires c =
-    let l = limits (goal.at.accepted-length-requires c).In-Ok in
-    let room = places (goal.at.accepted-length-requires c).In-Ok in
+    let l = subst (Listable (file_answer_in no_book (Ok c.in-Ok.read))) (sym c.of_read-lists.ensures) (limits (goal.at.accepted-length-requires c).In-Ok) in
+    let room = subst Places (sym c.of_read-lists.ensures) (places (goal.at.accepted-length-requires c).In-Ok) in
     record {
       held_bound = (l.held, l.lot);
       kept_in_bounds = (le_trans l.few room.0, le_trans l.few room.1, le_trans l.few room.2, le_trans l.few room.3);
@@ -42,7 +42,8 @@ pub returns-in-Ok : goal.returns-in-Ok
 unfolding noughts
 returns-in-Ok c =
     let told = said
-    (prints_accepted c.args.file.now (is (goal.at.returns-in-Ok c).In-Ok) {after = lent_of c.read.new.lent} c.read.ensures.sums_after refl)
+    (prints_accepted c.args.file.now (is (goal.at.returns-in-Ok c).In-Ok) {after = lent_of c.read.new.lent} c.read.ensures.sums_after refl
+    ∙ ap (listing_bytes c.in-Ok.read.book c.in-Ok.read.kept) (sym c.of_read-lists.ensures))
     (c.accepted-length.ensures.value, c.accepted-length.ensures.out_after) in
     record { length_value = told.0; bytes_value = told.1 }
 

@@ -1,7 +1,7 @@
 use Rattle.numbers.proofs.Words.{◌≡◌, le_antisymm, refl, sym, ap, ◌∙◌}
 use Rattle.rules.specs.Label.{rows_of}
 use Rattle.call_label.specs.Lengths.{lines_length}
-use Rattle.call_label.specs.Lists.{lists_read}
+use Rattle.shared_lists.specs.Lists.{lists_read}
 use Rattle.call_label.proofs.Laws.Label.{row_facts}
 use Rattle.call_label.proofs.Laws.Rows.{added_none, added_next, judged_none, judged_next, judged_stop, judged_end}
 use Rattle.call_label.proofs.rows.lines.Goals as goal

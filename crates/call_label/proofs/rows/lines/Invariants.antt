@@ -2,7 +2,7 @@ use Rattle.numbers.proofs.Words.{ℕ, entry}
 use Rattle.rules.specs.Expiry.Call.{line_of}
 use Rattle.rules.specs.Label.{row_fit, rows_of}
 use Rattle.call_label.specs.Lengths.{line_length}
-use Rattle.call_label.specs.Lists.{lists_read}
+use Rattle.shared_lists.specs.Lists.{lists_read}
 use Rattle.call_label.proofs.Laws.Rows.{Added, Judged}
 use Rattle.call_label.proofs.rows.lines.Given as goal
 

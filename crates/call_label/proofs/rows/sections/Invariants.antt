@@ -1,5 +1,5 @@
 use Rattle.call_label.specs.Lengths.{section_at_length}
-use Rattle.call_label.specs.Lists.{lists_read}
+use Rattle.shared_lists.specs.Lists.{lists_read}
 use Rattle.call_label.proofs.Laws.Rows.{Added}
 use Rattle.call_label.proofs.rows.sections.Given as goal
 

@@ -1,6 +1,6 @@
--- The lists that a label is counted from, as the definitions have them.
+-- The lists that are read, as the definitions have them.
 use Rattle.rules.specs.File.{Lent}
-use Rattle.call_label.specs.declared.lists.{Lists.Lists}
+use Rattle.shared_lists.specs.declared.{Lists.Lists}
 
 abbrev pub lists_read : Lists → Lent
 lists_read l = record {
