@@ -12,7 +12,7 @@ use rules::limits::LOT_MOST;
 use rules::refusal::Refusal;
 use rules::units::Tonnes;
 
-// A book of the terms and of noughts everywhere else.
+// A book of the terms and of noughts everywhere else; of no terms it is the book of noughts, which every call refuses with 1 (01, Book, 7).
 pub fn blank_book(lot: u32, w: u32, r: u32) -> Book
     ensures { result ≡ opened lot w r }
 {
